@@ -1,0 +1,9 @@
+pub mod Any
+pub mod Bools
+pub mod First
+pub mod Max
+pub mod Order
+pub mod Store
+pub mod Sum
+pub mod Sweep
+pub mod Tabulate
