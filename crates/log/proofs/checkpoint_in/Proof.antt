@@ -1,0 +1,18 @@
+-- `log::checkpoint_in` meets its contract. Assumes nothing.
+use native.Mathlib.Omega.{arith}
+use Rattle.log.proofs.Read.{section-length}
+use borrow.Author.Needs.{needs}
+use Rattle.log.proofs.checkpoint_in.Statement.{statement}
+use Rattle.log.proofs.checkpoint_in.Tie as tie
+
+section-part-requires : tie.Need-section-part-requires
+section-part-requires c κs = search needs
+
+checkpoint-record-requires : tie.Need-checkpoint-record-requires
+checkpoint-record-requires c κs = rw (c .section-part .ensures, section-length _ _ _ (c .before .before .pre .0)) (omega arith)
+
+returns : tie.Need-returns
+returns c = rw (c .before .section-part .ensures) at (c .checkpoint-record .ensures)
+
+pub checkpoint-in-spec : {M : Type 1} → statement M
+checkpoint-in-spec = tie.close (tie.spec section-part-requires checkpoint-record-requires returns)

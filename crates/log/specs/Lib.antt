@@ -1,0 +1,4 @@
+pub mod Limits
+pub mod Model
+pub mod Layout
+pub mod Header

@@ -1,0 +1,70 @@
+-- A log as a value, with nothing of bytes or offsets: two logs of the same content are equal. `Event` and `Checkpoint` are the
+-- structs of src/lib.rt.
+-- Assumes nothing.
+use mathlib.Core.Bool.{Bool, _||_}
+use mathlib.Core.List.{List, [], _∷_}
+use Prim.Native.Nat.{ℕ}
+use lib.Dec.{eqb}
+use lib.ListN.{length, getD}
+use Rattle.log.specs.declared.Event.{Event}
+use Rattle.log.specs.declared.Checkpoint.{Checkpoint}
+
+-- a worker's role, its events and its checkpoints, each in record order
+pub record Worker : Type 0 where
+  pub role : ℕ
+  pub events : List Event
+  pub checkpoints : List Checkpoint
+
+pub record Log : Type 0 where
+  pub form : ℕ
+  pub workers : List Worker
+
+-- "Index 0 is the paper's ⊥: no event"
+abbrev pub noEvent : Event
+noEvent = record { kind = 0; peer = 0; send = 0; stamp = 0 }
+
+-- "The initial state is always a checkpoint, index 0, identifier 0, and isn't recorded"
+abbrev pub initial : Checkpoint
+initial = record { index = 0; identifier = 0 }
+
+abbrev pub noWorker : Worker
+noWorker = record { role = 0; events = []; checkpoints = [] }
+
+-- the worker count n
+unfoldable pub size : Log → ℕ
+size log = length (log .workers)
+
+unfoldable pub worker : Log → ℕ → Worker
+worker log w = getD (log .workers) w noWorker
+
+unfoldable pub roleOf : Log → ℕ → ℕ
+roleOf log w = worker log w .role
+
+-- the event count of worker w
+unfoldable pub count : Log → ℕ → ℕ
+count log w = length (worker log w .events)
+
+-- event x of worker w: "Events of a worker are numbered 1, 2, .. in record order"; `noEvent` outside 1 .. count
+unfoldable pub eventOf : Log → ℕ → ℕ → Event
+eventOf log w x = getD (noEvent ∷ worker log w .events) x noEvent
+
+-- the number of recorded checkpoints of worker w
+unfoldable pub checkpoints : Log → ℕ → ℕ
+checkpoints log w = length (worker log w .checkpoints)
+
+-- checkpoint c of worker w: number 0 is the initial state, and the recorded ones are 1, 2, .. in record order
+unfoldable pub checkpointOf : Log → ℕ → ℕ → Checkpoint
+checkpointOf log w c = getD (initial ∷ worker log w .checkpoints) c initial
+
+-- "Kind 1 is a send, 2 a receive without its data logged, 3 a receive with its data logged"
+unfoldable pub isSend : Event → Bool
+isSend e = eqb (e .kind) 1
+
+unfoldable pub isUnlogged : Event → Bool
+isUnlogged e = eqb (e .kind) 2
+
+unfoldable pub isLogged : Event → Bool
+isLogged e = eqb (e .kind) 3
+
+unfoldable pub isReceive : Event → Bool
+isReceive e = isUnlogged e || isLogged e
