@@ -1,0 +1,4 @@
+pub mod Accepted
+pub mod Bound
+pub mod Stamps
+pub mod Tube

@@ -1,0 +1,23 @@
+-- `accept::peer_fault` meets its contract. Assumes nothing.
+use borrow.Author.Tests.{eq-eqb, ne-eqb}
+use Rattle.accept.specs.Records.{peerFault}
+use borrow.Author.Needs.{needs}
+use Rattle.accept.proofs.peer_fault.Statement.{statement}
+use Rattle.accept.proofs.peer_fault.Tie as tie
+
+cast-peer : tie.Need-cast-peer
+cast-peer c = search needs
+
+returns : tie.Need-returns
+unfolding peerFault
+returns c = rw (eq-eqb _ _ (c .if1 .taken))
+
+size-of-requires : tie.Need-size-of-requires
+size-of-requires c κs = search needs
+
+returns-2 : tie.Need-returns-2
+unfolding peerFault
+returns-2 c = rw (ne-eqb _ _ (c .before .if1 .left), ← c .size-of .ensures .0)
+
+pub peer-fault-spec : {M : Type 1} → statement M
+peer-fault-spec = tie.close (tie.spec cast-peer returns size-of-requires returns-2)

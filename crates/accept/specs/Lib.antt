@@ -1,0 +1,4 @@
+pub mod Records
+pub mod Refusal
+pub mod WellFormed
+pub mod Tube

@@ -1,0 +1,35 @@
+-- What an accepted log gives to everything above it: the theory of cuts, plans and replays uses this record alone.
+-- Assumes nothing.
+use mathlib.Core.Path.{_≡_}
+use mathlib.Core.Logic.{_⊎_, _≢_}
+use mathlib.Core.Bool.{true}
+use Prim.Native.Nat.{ℕ, _+_, _<_, _≤_}
+use Rattle.log.specs.declared.Event.{Event}
+use Rattle.log.specs.Limits.{maxWorkers, maxEvents, maxCheckpoints, maxRole}
+use Rattle.log.specs.Model.{Log, size, count, roleOf, eventOf, checkpoints, checkpointOf, isSend, isReceive}
+use Rattle.accept.specs.Records.{named}
+
+-- a receive e of worker w names a send to w by another worker, with a smaller stamp
+pub record Sent (log : Log) (w : ℕ) (e : Event) : Type 0 where
+  pub other : e .peer ≢ w
+  pub within : e .peer < size log
+  pub positive : 0 < e .send
+  pub counted : e .send ≤ count log (e .peer)
+  pub send : isSend (named log e) ≡ true
+  pub addressed : named log e .peer ≡ w
+  pub earlier : named log e .stamp < e .stamp
+
+pub record WellFormed (log : Log) : Type 0 where
+  pub some : 0 < size log
+  pub few : size log ≤ maxWorkers
+  pub events : (w : ℕ) → count log w ≤ maxEvents
+  pub recorded : (w : ℕ) → checkpoints log w ≤ maxCheckpoints
+  pub roles : (w : ℕ) → roleOf log w ≤ maxRole
+  pub kinds : (w x : ℕ) → 0 < x → x ≤ count log w → (isSend (eventOf log w x) ≡ true) ⊎ (isReceive (eventOf log w x) ≡ true)
+  -- stamps are positive and rise within a worker: event 0 has stamp 0
+  pub rises : (w k : ℕ) → k < count log w → eventOf log w k .stamp < eventOf log w (k + 1) .stamp
+  pub sent : (w x : ℕ) → isReceive (eventOf log w x) ≡ true → Sent log w (eventOf log w x)
+  -- indices are in range and do not fall, identifiers are positive and rise: checkpoint 0 is the initial state
+  pub indices : (w c : ℕ) → checkpointOf log w c .index ≤ count log w
+  pub ordered : (w k : ℕ) → k < checkpoints log w → checkpointOf log w k .index ≤ checkpointOf log w (k + 1) .index
+  pub identified : (w k : ℕ) → k < checkpoints log w → checkpointOf log w k .identifier < checkpointOf log w (k + 1) .identifier

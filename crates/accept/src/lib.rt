@@ -1,0 +1,231 @@
+// Every log is accepted, or refused by the smallest number of 1 to 11 that applies.
+
+use log::Checkpoint;
+use log::Event;
+ghost use mathlib.Core.Path.{_≡_};
+ghost use Prim.Native.Nat.{_+_, _<_};
+ghost use Rattle.log.specs.Header.{layout};
+ghost use Rattle.log.specs.Model.{count, eventOf};
+ghost use Rattle.log.specs.Layout.{logOf};
+ghost use Rattle.accept.specs.Records.{kindFault, peerFault, sendFault, fieldFault, stampFault, named, sourceFault, orderFault, eventFault, checkpointFault, recordFault, records, workerFault, someRecord};
+ghost use Rattle.accept.specs.Refusal.{content, refusal};
+
+// Whether the kind is none of 1, 2 and 3.
+fn kind_fault(e: Event) -> bool
+    ensures { λ r. ⌜ r ≡ kindFault e ⌝ }
+{
+    if log::is_send(e) {
+        return false;
+    }
+    !log::is_receive(e)
+}
+
+// Whether the peer of an event of worker w is w or no worker.
+fn peer_fault(log: &[u8], w: usize, e: Event) -> bool
+    requires { ⌜ layout (now log) ≡ 0 ⌝ }
+    ensures { λ r. ⌜ r ≡ peerFault (logOf (now (log .entry))) w e ⌝ }
+{
+    let peer = e.peer as usize;
+    if peer == w {
+        return true;
+    }
+    log::size_of(log) <= peer
+}
+
+// Whether the peer event is not 0 for a send, or no event of the peer for a receive.
+fn send_fault(log: &[u8], e: Event) -> bool
+    requires { ⌜ layout (now log) ≡ 0 ⌝ }
+    ensures { λ r. ⌜ r ≡ sendFault (logOf (now (log .entry))) e ⌝ }
+{
+    let send = e.send;
+    if log::is_send(e) {
+        return send != 0;
+    }
+    if send == 0 {
+        return true;
+    }
+    log::count_of(log, e.peer as usize) < send
+}
+
+// Test 7 on event k + 1 of worker w, which is e.
+fn field_fault(log: &[u8], w: usize, k: u32, e: Event) -> bool
+    requires { ⌜ (layout (now log) ≡ 0) × (k < count (logOf (now log)) w) ⌝ }
+    ensures { λ r. ⌜ r ≡ fieldFault (now (log .entry)) w k e ⌝ }
+{
+    if log::spare_at(log, w, k) != 0 {
+        return true;
+    }
+    if kind_fault(e) {
+        return true;
+    }
+    if peer_fault(log, w, e) {
+        return true;
+    }
+    send_fault(log, e)
+}
+
+// Test 8 on event k + 1 of worker w, which is e.
+fn stamp_fault(log: &[u8], w: usize, k: u32, e: Event) -> bool
+    requires { ⌜ layout (now log) ≡ 0 ⌝ }
+    ensures { λ r. ⌜ r ≡ stampFault (logOf (now (log .entry))) w k e ⌝ }
+{
+    let before = log::event_at(log, w, k);
+    e.stamp <= before.stamp
+}
+
+// The event that a receive names.
+fn named_by(log: &[u8], e: Event) -> Event
+    requires { ⌜ layout (now log) ≡ 0 ⌝ }
+    ensures { λ r. ⌜ r ≡ named (logOf (now (log .entry))) e ⌝ }
+{
+    log::event_at(log, e.peer as usize, e.send)
+}
+
+// Test 9 on an event of worker w.
+fn source_fault(log: &[u8], w: usize, e: Event) -> bool
+    requires { ⌜ layout (now log) ≡ 0 ⌝ }
+    ensures { λ r. ⌜ r ≡ sourceFault (logOf (now (log .entry))) w e ⌝ }
+{
+    if !log::is_receive(e) {
+        return false;
+    }
+    let source = named_by(log, e);
+    if !log::is_send(source) {
+        return true;
+    }
+    source.peer as usize != w
+}
+
+// Test 10 on an event.
+fn order_fault(log: &[u8], e: Event) -> bool
+    requires { ⌜ layout (now log) ≡ 0 ⌝ }
+    ensures { λ r. ⌜ r ≡ orderFault (logOf (now (log .entry))) e ⌝ }
+{
+    if !log::is_receive(e) {
+        return false;
+    }
+    let source = named_by(log, e);
+    e.stamp <= source.stamp
+}
+
+// Test 7, 8, 9 or 10 on event k + 1 of worker w.
+fn event_fault(log: &[u8], test: u32, w: usize, k: u32) -> bool
+    requires { ⌜ (layout (now log) ≡ 0) × (k < count (logOf (now log)) w) ⌝ }
+    ensures { λ r. ⌜ r ≡ eventFault test (now (log .entry)) w k (eventOf (logOf (now (log .entry))) w (k + 1)) ⌝ }
+{
+    let e = log::event_at(log, w, k + 1);
+    if test == 7 {
+        return field_fault(log, w, k, e);
+    }
+    if test == 8 {
+        return stamp_fault(log, w, k, e);
+    }
+    if test == 9 {
+        return source_fault(log, w, e);
+    }
+    order_fault(log, e)
+}
+
+// Test 11 on a checkpoint of worker w and the one before it.
+fn checkpoint_fault(log: &[u8], w: usize, before: Checkpoint, c: Checkpoint) -> bool
+    requires { ⌜ layout (now log) ≡ 0 ⌝ }
+    ensures { λ r. ⌜ r ≡ checkpointFault (logOf (now (log .entry))) w before c ⌝ }
+{
+    if log::count_of(log, w) < c.index {
+        return true;
+    }
+    if c.index < before.index {
+        return true;
+    }
+    c.identifier <= before.identifier
+}
+
+// The number of records of worker w that a test looks at.
+fn records_of(log: &[u8], test: u32, w: usize) -> u32
+    requires { ⌜ layout (now log) ≡ 0 ⌝ }
+    ensures { λ r. ⌜ r ≡ records test (now (log .entry)) w ⌝ }
+{
+    if test == 11 {
+        return log::checkpoints_of(log, w);
+    }
+    log::count_of(log, w)
+}
+
+// Test 7 to 11 on record k of worker w.
+fn record_fault(log: &[u8], test: u32, w: usize, k: u32) -> bool
+    requires { ⌜ (layout (now log) ≡ 0) × (k < records test (now log) w) ⌝ }
+    ensures { λ r. ⌜ r ≡ recordFault test (now (log .entry)) w k ⌝ }
+{
+    if test == 11 {
+        let before = log::checkpoint_at(log, w, k);
+        let c = log::checkpoint_at(log, w, k + 1);
+        return checkpoint_fault(log, w, before, c);
+    }
+    event_fault(log, test, w, k)
+}
+
+// Whether some record of worker w has the fault of this number.
+fn worker_fault(log: &[u8], test: u32, w: usize) -> bool
+    requires { ⌜ layout (now log) ≡ 0 ⌝ }
+    ensures { λ r. ⌜ r ≡ workerFault test (now (log .entry)) w ⌝ }
+{
+    let number = records_of(log, test, w);
+    let mut k: u32 = 0;
+    while k < number {
+        if record_fault(log, test, w, k) {
+            return true;
+        }
+        k += 1;
+    }
+    false
+}
+
+// Whether some record of the log has the fault of this number.
+fn some_record(log: &[u8], test: u32) -> bool
+    requires { ⌜ layout (now log) ≡ 0 ⌝ }
+    ensures { λ r. ⌜ r ≡ someRecord test (now (log .entry)) ⌝ }
+{
+    let n = log::size_of(log);
+    let mut w: usize = 0;
+    while w < n {
+        if worker_fault(log, test, w) {
+            return true;
+        }
+        w += 1;
+    }
+    false
+}
+
+// Tests 7 to 11: the number of the first that fails, or 0.
+fn content_refusal(log: &[u8]) -> u32
+    requires { ⌜ layout (now log) ≡ 0 ⌝ }
+    ensures { λ r. ⌜ r ≡ content (now (log .entry)) ⌝ }
+{
+    if some_record(log, 7) {
+        return 7;
+    }
+    if some_record(log, 8) {
+        return 8;
+    }
+    if some_record(log, 9) {
+        return 9;
+    }
+    if some_record(log, 10) {
+        return 10;
+    }
+    if some_record(log, 11) {
+        return 11;
+    }
+    0
+}
+
+// 0 for an accepted log, else the number that refuses it.
+pub fn accept(log: &[u8]) -> u32
+    ensures { λ r. ⌜ r ≡ refusal (now (log .entry)) ⌝ }
+{
+    let number = log::layout_refusal(log);
+    if number != 0 {
+        return number;
+    }
+    content_refusal(log)
+}
