@@ -1,0 +1,398 @@
+#!/usr/bin/env python3
+"""Writes the case files of the crate accept_cases, its arguments and its expected output.
+
+    scripts/make_cases.py            write the files
+    scripts/make_cases.py --check    fail if a stored file is not what would be written
+
+A case file is an input of the program `plan`: worker, event, then the log. Each case below states its name, the number
+by which document 01, "Refused by the input", refuses its log (0: accepted), and the log. The number is written by hand.
+"""
+
+import os
+import sys
+
+from logs import Worker, build, case_file, cut_to, extended
+
+CRATE = os.path.join(os.path.dirname(os.path.abspath(__file__)), "..", "crates", "accept_cases")
+
+# The largest input of `plan`.
+LARGEST = 65536
+
+CASES = []
+
+
+def case(name, number, log, worker=0, event=1):
+    CASES.append((name, number, case_file(worker, event, log)))
+
+
+# The log that most cases change in one place. It has 112 bytes: the header 48, events of worker 0 at 48, its checkpoint
+# at 72, events of worker 1 at 80, its checkpoint at 104.
+FIRST = [("send", 1, 1), ("receive", 1, 2, 4)]
+SECOND = [("receive", 0, 1, 2), ("send", 0, 3)]
+
+
+def two(first=FIRST, second=SECOND, first_checkpoints=((1, 1),), second_checkpoints=((2, 1),), roles=(0, 1), **changes):
+    """The log of two workers. `changes` are those of logs.build."""
+    return build([Worker(roles[0], first, first_checkpoints), Worker(roles[1], second, second_checkpoints)], **changes)
+
+
+def three(third=(), **changes):
+    """The same two workers and a third one. Without events of the third it has 132 bytes, the header 68 of them."""
+    return build([Worker(0, FIRST, [(1, 1)]), Worker(1, SECOND, [(2, 1)]), Worker(2, third)], **changes)
+
+
+def tube(kind_of_2_2="receive"):
+    """The tube log. `kind_of_2_2` is the kind of the receive of event 2 of worker 2."""
+    return build([
+        Worker(3, [("receive", 2, 1, 2), ("receive", 1, 3, 5), ("send", 1, 6)], [(1, 1)]),
+        Worker(1, [("send", 2, 1), (kind_of_2_2, 2, 2, 3), ("send", 0, 4), ("receive", 0, 3, 7)], [(1, 1)]),
+        Worker(0, [("send", 0, 1), ("send", 1, 2), ("receive", 1, 1, 3)], [(2, 1)]),
+    ])
+
+
+def each_to_the_next(n):
+    """n workers: each sends to the next one and receives from the one before it."""
+    return [Worker(w % 4, [("send", (w + 1) % n, 1), ("receive", (w - 1) % n, 1, 2)], [(1, 1)]) for w in range(n)]
+
+
+def without_events(n):
+    """n workers without events and checkpoints."""
+    return [Worker() for _ in range(n)]
+
+
+# ---- Accepted logs
+
+case("tube_log", 0, tube(), worker=0, event=2)
+case("tube_log_receive_2_2_logged", 0, tube("logged"), worker=0, event=2)
+case("two_workers", 0, two())
+case("a_send_received_twice", 0, two(first=FIRST + [("receive", 1, 2, 5)]), event=3)
+case("a_send_never_received", 0, two(first=FIRST + [("send", 1, 5)]), event=3)
+case("last_receive_names_a_smaller_send", 0, two(
+    first=[("receive", 1, 3, 5), ("receive", 1, 1, 6)],
+    second=[("send", 0, 1), ("send", 0, 2), ("send", 0, 3)],
+    second_checkpoints=[],
+), event=2)
+case("sixty_four_workers_with_events", 0, build(each_to_the_next(64)), worker=63, event=2)
+# 48 + 5,456 × 12 + 8 = 65,528 bytes
+case("longest_input", 0, two(
+    first=[("send", 1, stamp) for stamp in range(1, 5457)],
+    second=[],
+    first_checkpoints=[(5456, 1)],
+    second_checkpoints=[],
+), event=5456)
+
+# ---- Accepted: "Sections may be in any order, with gaps, and may share bytes"
+
+case("sections_in_reverse_order", 0, two(
+    places=[("checkpoints", 1), ("events", 1), ("checkpoints", 0), ("events", 0)],
+), event=2)
+case("gaps_between_sections", 0, two(
+    places=[3, ("events", 0), 1, ("checkpoints", 0), 12, ("events", 1), 7, ("checkpoints", 1)],
+), event=2)
+case("gap_at_the_end", 0, extended(two(), 5), event=2)
+# workers 0 and 1 send the same to worker 2, and have the same checkpoint
+case("two_workers_share_all_bytes", 0, build(
+    [
+        Worker(0, [("send", 2, 1), ("send", 2, 2)], [(2, 7)]),
+        Worker(1, [("send", 2, 1), ("send", 2, 2)], [(2, 7)]),
+        Worker(2, [("receive", 0, 2, 3), ("receive", 1, 1, 4)], []),
+    ],
+    places=[("events", 0), ("checkpoints", 0), ("events", 2)],
+    fields={(1, "event offset"): 68, (1, "checkpoint offset"): 92},
+), worker=2, event=2)
+# the one event of worker 1 is the second of worker 0
+case("events_share_a_record", 0, build(
+    [Worker(0, [("send", 2, 1), ("send", 2, 2)]), Worker(0, [("send", 2, 2)]), Worker(0, [("receive", 1, 1, 3)])],
+    places=[("events", 0), ("events", 2)],
+    fields={(1, "event offset"): 68 + 12},
+), worker=2, event=1)
+# peer event 1 and stamp 5 of the receive are the index and the identifier of the checkpoint
+case("a_checkpoint_shares_bytes_with_an_event", 0, build(
+    [Worker(0, [("receive", 1, 1, 5)], [(1, 5)]), Worker(0, [("send", 0, 1)])],
+    places=[("events", 0), ("events", 1)],
+    fields={(0, "checkpoint offset"): 48 + 4},
+), event=1)
+# what one worker may send the other may not: its peer would be itself
+case("shared_event_has_its_own_worker_as_peer", 7, build(
+    [Worker(0, [("send", 1, 1)]), Worker(0, [("send", 1, 1)])],
+    places=[("events", 0)],
+    fields={(1, "event offset"): 48},
+))
+
+# ---- 1: "log under 8 or over 4,194,304 bytes"
+
+case("log_of_0_bytes", 1, b"")
+case("log_of_7_bytes", 1, bytes([1, 0, 1, 0, 7, 0, 0]))
+
+# ---- 2: "form not 1"
+
+case("form_0", 2, two(form=0))
+case("form_2", 2, two(form=2))
+case("form_257", 2, two(form=257))
+
+# ---- 3: "n outside 1..64"
+
+case("no_workers", 3, build([]))
+case("sixty_five_workers", 3, build(without_events(65)))
+case("worker_count_257", 3, build(without_events(1), size=257))
+
+# ---- 4: "length field unlike the lent length, or header longer than the log"
+
+case("header_is_the_log_of_1_worker", 0, build(without_events(1)), event=0)
+case("header_is_the_log_of_64_workers", 0, build(without_events(64)), event=0)
+case("header_of_1_worker_lacks_a_byte", 4, cut_to(build(without_events(1)), 27))
+case("log_of_8_bytes", 4, bytes([1, 0, 1, 0, 8, 0, 0, 0]))
+case("length_field_one_less", 4, two(length=111))
+case("length_field_one_more", 4, two(length=113))
+case("length_field_16777216_more", 4, two(length=112 + 16777216))
+case("length_field_of_the_whole_input", 4, two(length=112 + 8))
+case("last_byte_missing", 4, two()[:-1])
+case("one_byte_too_many", 4, two() + b"\x00")
+
+# ---- 5: "event count, checkpoint count or role over its limit"
+
+case("event_count_65536", 5, two(fields={(0, "event count"): 65536}))
+case("event_count_4294967295", 5, two(fields={(0, "event count"): 4294967295}))
+case("checkpoint_count_1024", 0, build(
+    [Worker(0, [("send", 1, 1)], [(c // 512, c + 1) for c in range(1024)]), Worker()],
+), event=1)
+case("checkpoint_count_1025", 5, build(
+    [Worker(0, [("send", 1, 1)], [(c // 1024, c + 1) for c in range(1025)]), Worker()],
+))
+case("roles_2_and_3", 0, two(roles=(2, 3)), event=2)
+case("role_4", 5, two(roles=(4, 0)))
+case("role_4_of_the_last_worker", 5, two(roles=(0, 4)))
+case("role_256", 5, two(roles=(256, 0)))
+
+# ---- 6: "a section, even empty, starts inside the header or passes the log's end"
+
+case("event_count_65535_passes_the_end", 6, two(fields={(0, "event count"): 65535}))
+case("events_start_inside_the_header", 6, two(fields={(0, "event offset"): 47}))
+case("checkpoints_start_inside_the_header", 6, two(fields={(1, "checkpoint offset"): 47}))
+case("empty_events_at_the_header_end", 0, three(fields={(2, "event offset"): 68}), event=2)
+case("empty_events_inside_the_header", 6, three(fields={(2, "event offset"): 67}))
+case("empty_events_at_byte_0", 6, three(fields={(2, "event offset"): 0}))
+case("empty_checkpoints_at_the_header_end", 0, three(fields={(2, "checkpoint offset"): 68}), event=2)
+case("empty_checkpoints_inside_the_header", 6, three(fields={(2, "checkpoint offset"): 67}))
+case("empty_sections_at_the_log_end", 0, three(fields={(2, "event offset"): 132, (2, "checkpoint offset"): 132}), event=2)
+case("empty_events_beyond_the_log_end", 6, three(fields={(2, "event offset"): 133}))
+case("empty_checkpoints_beyond_the_log_end", 6, three(fields={(2, "checkpoint offset"): 133}))
+case("empty_events_at_the_largest_offset", 6, three(fields={(2, "event offset"): 4294967295}))
+case("last_of_64_workers_starts_inside_the_header", 6, build(without_events(64), fields={(63, "event offset"): 1287}))
+EVENTS_LAST = [("checkpoints", 0), ("checkpoints", 1), ("events", 0), ("events", 1)]
+case("events_pass_the_end_by_a_byte", 6, two(places=EVENTS_LAST, fields={(1, "event offset"): 89}))
+case("checkpoints_pass_the_end_by_a_byte", 6, two(fields={(1, "checkpoint offset"): 105}))
+# start and bytes add up to 4,294,967,296
+case("end_of_the_events_needs_33_bits", 6, two(fields={(0, "event offset"): 4294967272}))
+case("end_of_the_checkpoints_needs_33_bits", 6, two(fields={(0, "checkpoint offset"): 4294967288}))
+
+# ---- 7: "kind, spare or peer event not as above; peer is itself or not below n; a receive's peer event is 0 or over the
+# peer's count". The third event of worker 0 has the fault.
+# A raw event is ("raw", kind, peer, spare, peer event, stamp).
+
+
+def third_event(event):
+    """The log of two workers with a third event of worker 0."""
+    return two(first=FIRST + [event])
+
+
+case("kind_0_without_a_peer_event", 7, third_event(("raw", 0, 1, 0, 0, 5)))
+case("kind_0_with_a_peer_event", 7, third_event(("raw", 0, 1, 0, 2, 5)))
+case("kind_4_with_a_peer_event", 7, third_event(("raw", 4, 1, 0, 2, 5)))
+case("kind_255_with_a_peer_event", 7, third_event(("raw", 255, 1, 0, 2, 5)))
+case("first_spare_byte_of_a_send", 7, third_event(("raw", 1, 1, 1, 0, 5)))
+case("second_spare_byte_of_a_send", 7, third_event(("raw", 1, 1, 256, 0, 5)))
+case("spare_bytes_of_a_receive", 7, third_event(("raw", 2, 1, 65535, 2, 5)))
+case("send_to_itself", 7, third_event(("send", 0, 5)))
+case("receive_from_itself", 7, third_event(("receive", 0, 1, 5)))
+case("send_to_worker_n", 7, third_event(("send", 2, 5)))
+case("receive_from_worker_n", 7, third_event(("receive", 2, 1, 5)))
+case("last_of_64_workers_as_peer", 0, build(
+    [Worker(0, [("send", 63, 1), ("receive", 63, 1, 3)])] + without_events(62) + [Worker(0, [("send", 0, 2)])],
+), event=2)
+case("worker_64_of_64_as_peer", 7, build([Worker(0, [("send", 64, 1)])] + without_events(63)))
+case("peer_event_1_of_a_send", 7, third_event(("raw", 1, 1, 0, 1, 5)))
+case("peer_event_16777216_of_a_send", 7, third_event(("raw", 1, 1, 0, 16777216, 5)))
+case("peer_event_0_of_a_receive", 7, third_event(("receive", 1, 0, 5)))
+case("peer_event_0_of_a_logged_receive", 7, third_event(("logged", 1, 0, 5)))
+# worker 1 has 2 events, worker 0 has 3
+case("peer_event_over_the_peers_count", 7, third_event(("receive", 1, 3, 5)))
+case("peer_event_65536_over_the_peers_count", 7, third_event(("receive", 1, 2 + 65536, 5)))
+case("peer_event_above_its_own_count", 0, build(
+    [Worker(0, [("send", 1, 1), ("send", 1, 2), ("send", 1, 3)]), Worker(0, [("receive", 0, 3, 4)])],
+), worker=1, event=1)
+
+# ---- 8: "stamp 0, or not above the worker's previous one"
+
+case("first_stamp_0", 8, two(first=[("send", 1, 0), ("receive", 1, 2, 4)]))
+case("equal_stamps_of_a_worker", 8, two(first=FIRST + [("send", 1, 4)]))
+case("falling_stamps_of_a_worker", 8, two(first=FIRST + [("send", 1, 3)]))
+case("stamps_256_then_2", 8, two(first=[("send", 1, 256), ("send", 1, 2)], second=[], second_checkpoints=[]))
+case("stamps_2_then_256", 0, two(first=[("send", 1, 2), ("send", 1, 256)], second=[], second_checkpoints=[]), event=2)
+case("stamps_in_each_byte", 0, two(
+    first=[("send", 1, stamp) for stamp in (255, 256, 65535, 65536, 16777215, 16777216, 4294967295)],
+    second=[],
+    second_checkpoints=[],
+), event=7)
+case("equal_stamps_of_two_workers", 0, two(
+    first=[("send", 1, 1)],
+    second=[("send", 0, 1)],
+    second_checkpoints=[(1, 1)],
+))
+
+# ---- 9: "a receive names an event that isn't a send to its worker"
+
+case("receive_names_a_receive", 9, two(first=FIRST + [("receive", 1, 1, 5)]))
+case("logged_receive_names_a_receive", 9, two(first=FIRST + [("logged", 1, 1, 5)]))
+case("receive_names_a_logged_receive", 9, two(
+    first=FIRST + [("receive", 1, 1, 5)],
+    second=[("logged", 0, 1, 2), ("send", 0, 3)],
+))
+case("receive_names_a_send_to_another_worker", 9, three(third=[("receive", 0, 1, 5)]))
+case("logged_receive_names_a_send_to_another_worker", 9, three(third=[("logged", 0, 1, 5)]))
+
+# ---- 10: "a receive's stamp not above its send's"
+
+case("equal_stamps_of_a_send_and_its_receive", 10, two(first=[("send", 1, 1), ("receive", 1, 2, 3)]))
+case("equal_stamps_of_a_send_and_its_logged_receive", 10, two(first=[("send", 1, 1), ("logged", 1, 2, 3)]))
+case("stamp_of_a_receive_below_its_send", 10, two(first=[("send", 1, 1), ("receive", 1, 2, 2)]))
+
+# ---- 11: "checkpoint index over the event count or below the previous one; identifier 0 or not above the previous"
+
+case("checkpoint_index_is_the_event_count", 0, two(first_checkpoints=[(2, 1)]), event=2)
+case("checkpoint_index_over_the_event_count", 11, two(first_checkpoints=[(3, 1)]))
+case("checkpoint_index_over_its_own_count_alone", 11, two(
+    second=SECOND + [("send", 0, 5)],
+    first_checkpoints=[(3, 1)],
+))
+case("checkpoint_index_over_the_other_count_alone", 0, two(
+    second=SECOND + [("send", 0, 5)],
+    second_checkpoints=[(3, 1)],
+), event=2)
+case("checkpoint_index_0", 0, two(first_checkpoints=[(0, 1)]), event=2)
+case("checkpoint_index_falls", 11, two(first_checkpoints=[(0, 1), (2, 2), (1, 3)]))
+case("equal_checkpoint_indices", 0, two(first_checkpoints=[(1, 1), (1, 2)]), event=2)
+case("identifier_0", 11, two(first_checkpoints=[(1, 0)]))
+case("equal_identifiers", 11, two(first_checkpoints=[(1, 1), (2, 1)]))
+case("identifier_falls", 11, two(first_checkpoints=[(0, 1), (1, 3), (2, 2)]))
+case("identifiers_in_each_byte", 0, two(
+    first_checkpoints=[(0, 2), (1, 256), (1, 65536), (2, 16777216), (2, 4294967295)],
+), event=2)
+case("identifiers_start_anew_in_each_worker", 0, two(
+    first_checkpoints=[(1, 5), (2, 6)],
+    second_checkpoints=[(0, 2)],
+), event=2)
+case("last_checkpoint_of_the_last_worker", 11, two(second_checkpoints=[(0, 1), (1, 2), (2, 2)]))
+
+# ---- Several numbers at once: "The smallest number that applies is given", over the whole log
+
+case("1_before_2", 1, bytes([2, 0, 1, 0, 7, 0, 0]))
+case("2_before_3", 2, build([], form=2))
+case("3_before_4", 3, two(size=65, length=0))
+case("4_before_5", 4, two(length=111, roles=(4, 4)))
+case("5_in_the_last_worker_before_6_in_the_first", 5, two(roles=(0, 4), fields={(0, "event offset"): 0}))
+case("6_in_the_last_worker_before_7_in_the_first", 6, two(
+    first=FIRST + [("raw", 0, 1, 0, 2, 5)],
+    fields={(1, "checkpoint offset"): 0},
+))
+case("7_in_the_last_worker_before_8_in_the_first", 7, two(
+    first=[("send", 1, 0), ("receive", 1, 2, 4)],
+    second=SECOND + [("raw", 0, 0, 0, 1, 5)],
+))
+case("7_in_an_event_after_8", 7, two(first=FIRST + [("send", 1, 4), ("send", 0, 5)]))
+case("7_and_8_in_one_event", 7, two(first=FIRST + [("raw", 1, 1, 1, 0, 0)]))
+case("7_in_the_last_worker_before_11_in_the_first", 7, two(
+    first_checkpoints=[(1, 0)],
+    second=SECOND + [("send", 2, 5)],
+))
+case("8_in_the_last_worker_before_9_in_the_first", 8, two(
+    first=FIRST + [("receive", 1, 1, 5)],
+    second=SECOND + [("send", 0, 3)],
+))
+case("8_and_10_in_one_event", 8, two(first=[("send", 1, 3), ("receive", 1, 2, 3)], second=[("send", 0, 1), ("send", 0, 3)]))
+case("8_in_the_last_worker_before_11_in_the_first", 8, two(
+    first_checkpoints=[(1, 0)],
+    second=SECOND + [("send", 0, 3)],
+))
+case("9_in_the_last_worker_before_10_in_the_first", 9, two(
+    first=[("send", 1, 1), ("receive", 1, 2, 3)],
+    second=SECOND + [("receive", 0, 2, 5)],
+))
+case("9_and_10_in_one_event", 9, two(first=[("send", 1, 1), ("receive", 1, 1, 2)]))
+case("10_in_the_last_worker_before_11_in_the_first", 10, two(
+    second=[("receive", 0, 1, 1), ("send", 0, 3)],
+    first_checkpoints=[(1, 0)],
+))
+case("7_8_9_10_and_11_at_once", 7, build([
+    Worker(0, [("send", 1, 0), ("receive", 1, 1, 6)], [(3, 0)]),
+    Worker(0, [("receive", 0, 1, 2), ("receive", 0, 2, 5)]),
+    Worker(0, [("send", 3, 1)]),
+]))
+case("4_5_6_and_7_at_once", 4, two(
+    first=FIRST + [("raw", 255, 255, 255, 255, 5)],
+    roles=(0, 4),
+    fields={(0, "checkpoint offset"): 4294967295},
+    length=4294967295,
+))
+# for `plan`: the worker is past the last one, and the event is 0
+case("11_before_the_breakpoint", 11, two(second_checkpoints=[(1, 0)]), worker=2, event=0)
+
+
+def files():
+    """The content of each file, by its path in the crate."""
+    made = {}
+    lines = []
+    seen = {}
+    for name, number, content in CASES:
+        path = os.path.join("data", name)
+        assert path not in made, "two cases have the name " + name
+        assert content not in seen, name + " has the bytes of " + seen.get(content, "")
+        assert len(content) <= LARGEST, name + " is too long for an input of plan"
+        made[path] = content
+        seen[content] = name
+        lines.append("%s %d\n" % (name, number))
+    made["args"] = "".join(name + "\n" for name, _, _ in CASES).encode()
+    made["stdout"] = "".join(lines).encode()
+    return made
+
+
+def stored():
+    """The files of the crate that this script writes, as they are."""
+    paths = ["args", "stdout"]
+    data = os.path.join(CRATE, "data")
+    if os.path.isdir(data):
+        paths += [os.path.join("data", name) for name in os.listdir(data)]
+    found = {}
+    for path in paths:
+        if os.path.exists(os.path.join(CRATE, path)):
+            with open(os.path.join(CRATE, path), "rb") as file:
+                found[path] = file.read()
+    return found
+
+
+def check():
+    made, found = files(), stored()
+    bad = sorted(path for path in set(made) | set(found) if made.get(path) != found.get(path))
+    for path in bad:
+        print("not as described: crates/accept_cases/" + path)
+    print("%d cases, %d files not as described" % (len(CASES), len(bad)))
+    return 1 if bad else 0
+
+
+def write():
+    made = files()
+    for path in stored():
+        if path not in made:
+            os.remove(os.path.join(CRATE, path))
+    os.makedirs(os.path.join(CRATE, "data"), exist_ok=True)
+    for path, content in made.items():
+        with open(os.path.join(CRATE, path), "wb") as file:
+            file.write(content)
+    print("%d cases written" % len(CASES))
+    return 0
+
+
+if __name__ == "__main__":
+    if sys.argv[1:] not in ([], ["--check"]):
+        sys.exit(__doc__)
+    sys.exit(check() if sys.argv[1:] else write())
