@@ -1,0 +1,13 @@
+pub mod Order
+pub mod Components
+pub mod Recursion
+pub mod LowerCut
+pub mod VisitCount
+pub mod CutTest
+pub mod UpperLine
+pub mod WorkersWord
+pub mod Lent
+pub mod Row
+pub mod Rounds
+pub mod Scan
+pub mod Turns

@@ -1,0 +1,65 @@
+-- `causality::note` meets its contract. Assumes nothing.
+use mathlib.Core.Path.{sym, _∙_}
+use native.Mathlib.Omega.{arith}
+use Rattle.log.proofs.Read.{count-field}
+use Rattle.accept.proofs.Accepted.{accepted-layout}
+use Rattle.causality.specs.Row.{noted}
+use Rattle.causality.proofs.Row.{peer-within}
+use borrow.Author.Needs.{needs}
+use Rattle.causality.proofs.note.Statement.{statement}
+use Rattle.causality.proofs.note.Tie as tie
+
+add-event-at : tie.Need-add-event-at
+add-event-at c = omega (arith, count-field _ (accepted-layout _ (c .before .before .pre .0)) (c .before .before .args .i) .1)
+
+event-at-requires : tie.Need-event-at-requires
+event-at-requires c κs = accepted-layout _ (c .before .before .pre .0)
+
+is-receive-requires : tie.Need-is-receive-requires
+is-receive-requires c κs = search needs
+
+cast-peer : tie.Need-cast-peer
+cast-peer c = search needs
+
+mul-larger : tie.Need-mul-larger
+mul-larger c = search needs
+
+slice-read-larger : tie.Need-slice-read-larger
+slice-read-larger c = rw (c .before .before .before .before .before .before .before .pre .1) (peer-within _ (c .before .before .before .before .before .before .before .pre .0) _ _ _ (c .before .before .before .before .event-at .ensures) (sym (c .before .before .before .is-receive .ensures) ∙ c .before .before .if1 .taken))
+
+larger-requires : tie.Need-larger-requires
+larger-requires c κs = search needs
+
+mul-words : tie.Need-mul-words
+mul-words c = search needs
+
+slice-write-words : tie.Need-slice-write-words
+slice-write-words c = rw (c .before .before .before .before .before .before .before .before .pre .1) (peer-within _ (c .before .before .before .before .before .before .before .before .pre .0) _ _ _ (c .before .before .before .before .before .event-at .ensures) (sym (c .before .before .before .before .is-receive .ensures) ∙ c .before .before .before .if1 .taken))
+
+same-length : tie.Need-same-length
+same-length c = search needs
+
+returns : tie.Need-returns
+unfolding noted
+returns c = rw (← c .before .before .before .before .before .event-at .ensures, (sym (c .before .before .before .before .is-receive .ensures) ∙ c .before .before .before .if1 .taken), c .larger .ensures)
+
+returns-2 : tie.Need-returns-2
+unfolding noted
+returns-2 c = rw (← c .before .before .event-at .ensures, ← c .before .is-receive .ensures, c .if1 .left)
+
+pub note-spec : {M : Type 1} → statement M
+note-spec =
+    tie.close
+    (tie.spec
+    add-event-at
+    event-at-requires
+    is-receive-requires
+    cast-peer
+    mul-larger
+    slice-read-larger
+    larger-requires
+    mul-words
+    slice-write-words
+    same-length
+    returns
+    returns-2)

@@ -1,0 +1,10 @@
+pub mod Happened
+pub mod Cut
+pub mod Figure2
+pub mod Upper
+pub mod Row
+pub mod Rounds
+pub mod Visiting
+pub mod Workers
+pub mod Lent
+pub mod Calls
