@@ -1,0 +1,14 @@
+pub mod Chosen
+pub mod Cost
+pub mod Covering
+pub mod Latest
+pub mod Lowered
+pub mod Starts
+pub mod Held
+pub mod Set
+pub mod Placed
+pub mod Settling
+pub mod Begun
+pub mod Finished
+pub mod Written
+pub mod Allowed

@@ -1,0 +1,26 @@
+-- `restore::start_of` meets its contract. Assumes nothing.
+use mathlib.Core.Path.{refl}
+use Rattle.restore.specs.Words.{planStart}
+use borrow.Author.Needs.{needs}
+use Rattle.restore.proofs.start_of.Statement.{statement}
+use Rattle.restore.proofs.start_of.Tie as tie
+
+mul-result : tie.Need-mul-result
+mul-result c = search needs
+
+add-result : tie.Need-add-result
+add-result c = search needs
+
+mul-result-2 : tie.Need-mul-result-2
+mul-result-2 c = search needs
+
+shared-slice-read-result : tie.Need-shared-slice-read-result
+shared-slice-read-result c = search needs
+
+returns : tie.Need-returns
+unfolding planStart
+returns c = refl
+
+pub start-of-spec : {M : Type 1} → statement M
+start-of-spec =
+    tie.close (tie.spec mul-result add-result mul-result-2 shared-slice-read-result returns)

@@ -1,0 +1,8 @@
+pub mod Choice
+pub mod Plan
+pub mod Words
+pub mod Cost
+pub mod Covering
+pub mod Calls
+pub mod Held
+pub mod Lowering
