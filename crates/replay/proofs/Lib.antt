@@ -1,0 +1,10 @@
+pub mod Steps
+pub mod Lists
+pub mod Count
+pub mod Progress
+pub mod Works
+pub mod Words
+pub mod Call
+pub mod Restored
+pub mod Trace
+pub mod Answers

@@ -1,0 +1,3 @@
+pub mod Machine
+pub mod Calls
+pub mod Demand3
