@@ -12,6 +12,7 @@ use Rattle.ranges.proofs.Order.{lt-or-le}
 use Rattle.log.specs.Model.{Log, count, eventOf, isReceive, isUnlogged, isLogged}
 use Rattle.log.proofs.Read.{event-none, event-past}
 use Rattle.accept.specs.Records.{named}
+use Rattle.accept.proofs.Stamps.{stamps-rise}
 use Rattle.accept.specs.WellFormed.{WellFormed}
 use Rattle.causality.specs.Happened.{IsEvent, HappenedBefore, earlier, message, through}
 use Rattle.causality.specs.Cut.{at, Consistent}
@@ -64,23 +65,12 @@ happened-last {log} {u} {x} {w} {y} (through {v} {y = m} a b) = ⊎-elim (same (
         }
 
 module _ (log : Log) (ok : WellFormed log) where
-  -- stamps rise within a worker
-  pub stamps-rise : (w x y : ℕ) → x < y → y ≤ count log w → eventOf log w x .stamp < eventOf log w y .stamp
-  stamps-rise w x zero h l = absurd (not-suc-le-zero h)
-  stamps-rise w x (suc y) h l =
-      let here = rw add-one at (ok .rises w y (omega arith)) in
-      ⊎-elim (λ q. rw q here) (λ less. let below = stamps-rise w x y less (omega arith) in omega arith) (eq-or-lt-of-le (le-of-suc-le-suc h))
-
-  -- .. and do not fall up to the same event
-  pub stamps-grow : (w x y : ℕ) → x ≤ y → y ≤ count log w → eventOf log w x .stamp ≤ eventOf log w y .stamp
-  stamps-grow w x y h l = ⊎-elim (λ q. rw q (omega arith)) (λ less. let rise = stamps-rise w x y less l in omega arith) (eq-or-lt-of-le h)
-
   -- within a worker, the smaller stamp has the smaller index
   pub index-less : (w x y : ℕ) → x ≤ count log w → eventOf log w x .stamp < eventOf log w y .stamp → x < y
   index-less w x y l h =
       ⊎-elim (λ less. less)
       (λ g. ⊎-elim (λ q. let e : eventOf log w y .stamp ≡ eventOf log w x .stamp = ap (λ (z : ℕ). eventOf log w z .stamp) q in let no : ⊥ = omega arith in absurd no)
-      (λ less. let rise = stamps-rise w y x less l in let no : ⊥ = omega arith in absurd no)
+      (λ less. let rise = stamps-rise log ok w y x less l in let no : ⊥ = omega arith in absurd no)
       (eq-or-lt-of-le g))
       (lt-or-le x y)
 
@@ -94,7 +84,7 @@ module _ (log : Log) (ok : WellFormed log) where
   -- what happened before an event is an event with a smaller stamp
   pub happened-rises : {w x v y : ℕ} → HappenedBefore log w x v y → Rising log w x v y
   happened-rises (earlier {w} {x} {y} positive less bound) =
-      record { first = (positive, omega arith); second = (omega arith, bound); stamps = stamps-rise w x y less bound }
+      record { first = (positive, omega arith); second = (omega arith, bound); stamps = stamps-rise log ok w x y less bound }
   happened-rises (message {v} {s} {w} {x} r p q) = rw (p, q) at (send-rises w x r)
   happened-rises (through a b) =
       let first = happened-rises a in

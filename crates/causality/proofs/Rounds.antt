@@ -23,7 +23,8 @@ use Rattle.causality.specs.Cut.{at, Within}
 use Rattle.causality.specs.Visiting.{wordSum}
 use Rattle.causality.specs.Rounds.{blocked, Passed, Turned}
 use Rattle.causality.specs.Upper.{upperLine}
-use Rattle.causality.proofs.Order.{stamps-grow, index-less, send-rises}
+use Rattle.accept.proofs.Stamps.{stamps-grow}
+use Rattle.causality.proofs.Order.{index-less, send-rises}
 use Rattle.causality.proofs.UpperLine.{IsUpper, upper-unique}
 
 -- what the test on a receive says where it holds, and where it does not

@@ -23,7 +23,8 @@ use Rattle.causality.specs.Happened.{IsEvent}
 use Rattle.causality.specs.Cut.{at, namedOf, component, IsCut}
 use Rattle.causality.specs.Figure2.{Found, counted, stored, turn, visitAt, beginning, figure2}
 use Rattle.causality.specs.Visiting.{namedAfter, largestAfter, wordSum, IsAbove, Visiting}
-use Rattle.causality.proofs.Order.{Rising, stamps-rise, index-less, happened-rises}
+use Rattle.accept.proofs.Stamps.{stamps-rise}
+use Rattle.causality.proofs.Order.{Rising, index-less, happened-rises}
 use Rattle.causality.proofs.Components.{component-own, component-rises}
 use Rattle.causality.proofs.Recursion.{Ready, grown-ready, Raised, turn-cases, visit-equation}
 use Rattle.causality.proofs.LowerCut.{Visited, turns-visited, visitAt-visited, visited-cut, beginning-words, beginning-cut}
