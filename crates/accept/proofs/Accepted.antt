@@ -20,7 +20,7 @@ use Rattle.log.specs.Model.{Log, noEvent, initial, size, count, roleOf, eventOf
 use Rattle.log.proofs.Readable.{peel, readable}
 use Rattle.log.proofs.Read.{size-read, count-field, checkpoints-field, role-field, worker-within, worker-within′, event-none, event-past, checkpoint-initial, checkpoint-past}
 use Rattle.accept.specs.Records.{kindFault, peerFault, sendFault, fieldFault, stampFault, named, sourceFault, orderFault, eventFault, checkpointFault, recordFault, records, workerFault, someRecord}
-use Rattle.accept.specs.Refusal.{content, orElse, refusal}
+use Rattle.accept.specs.Refusal.{eventsNumber, content, orElse, refusal}
 use Rattle.accept.specs.WellFormed.{Sent, WellFormed}
 
 -- the first of two numbers that is not 0 is 0: both are
@@ -57,13 +57,14 @@ module _ (s : List ℕ) (accepted : refusal s ≡ 0) where
   accepted-layout = both .0
 
   tests : (someRecord 7 s ≡ false) × (someRecord 8 s ≡ false) × (someRecord 9 s ≡ false) × (someRecord 10 s ≡ false) × (someRecord 11 s ≡ false)
-  unfolding content
+  unfolding content eventsNumber
   tests =
-      let seven = peel (someRecord 7 s) 6 _ (both .1) in
+      let parts = or-else-zero (eventsNumber s) (cond (someRecord 11 s) 11 0) (both .1) in
+      let seven = peel (someRecord 7 s) 6 _ (parts .0) in
       let eight = peel (someRecord 8 s) 7 _ (seven .1) in
       let nine = peel (someRecord 9 s) 8 _ (eight .1) in
       let ten = peel (someRecord 10 s) 9 _ (nine .1) in
-      let eleven = peel (someRecord 11 s) 10 _ (ten .1) in
+      let eleven = peel (someRecord 11 s) 10 _ (parts .1) in
       (seven .0, eight .0, nine .0, ten .0, eleven .0)
 
   -- a test that no record fails: this record passes it

@@ -7,7 +7,7 @@ use Rattle.log.specs.Model.{size, worker, count, eventOf, checkpoints, checkpoi
 use Rattle.log.specs.Layout.{field, section, eventSection, checkpointSection, eventRecord, spareOf, checkpointRecord, workerOf, logOf}
 use Rattle.log.specs.Header.{lengthFault, formFault, sizeFault, headerFault, limitFault, outside, sectionFault, entryFault, someEntry, entries, layout}
 use Rattle.accept.specs.Records.{kindFault, peerFault, sendFault, fieldFault, stampFault, named, sourceFault, orderFault, eventFault, checkpointFault, recordFault, records, workerFault, someRecord}
-use Rattle.accept.specs.Refusal.{content, orElse, refusal}
+use Rattle.accept.specs.Refusal.{eventsNumber, content, orElse, refusal}
 use Rattle.accept.specs.Tube.{tube, tubeLog}
 
 pub tube-model : logOf tube ≡ tubeLog
@@ -15,5 +15,5 @@ unfolding le tabulate field section eventSection checkpointSection eventRecord c
 tube-model = refl
 
 pub tube-accepted : refusal tube ≡ 0
-unfolding anyBelow le tabulate size worker count eventOf checkpoints checkpointOf isSend isUnlogged isLogged isReceive field section eventSection checkpointSection eventRecord spareOf checkpointRecord workerOf logOf lengthFault formFault sizeFault headerFault limitFault outside sectionFault entryFault someEntry entries layout kindFault peerFault sendFault fieldFault stampFault named sourceFault orderFault eventFault checkpointFault recordFault records workerFault someRecord content orElse refusal
+unfolding anyBelow le tabulate size worker count eventOf checkpoints checkpointOf isSend isUnlogged isLogged isReceive field section eventSection checkpointSection eventRecord spareOf checkpointRecord workerOf logOf lengthFault formFault sizeFault headerFault limitFault outside sectionFault entryFault someEntry entries layout kindFault peerFault sendFault fieldFault stampFault named sourceFault orderFault eventFault checkpointFault recordFault records workerFault someRecord eventsNumber content orElse refusal
 tube-accepted = refl

@@ -42,13 +42,14 @@ sourceFault log w e = isReceive e && not (isSend (named log e) && eqb (named log
 unfoldable pub orderFault : Log → Event → Bool
 orderFault log e = isReceive e && leb (e .stamp) (named log e .stamp)
 
--- 7 to 10 by their number, of event k + 1 of worker w
+-- 7 to 10 by their number, of event k + 1 of worker w; any other number is for any of them
 unfoldable pub eventFault : ℕ → List ℕ → ℕ → ℕ → Event → Bool
 eventFault test s w k e =
     cond (eqb test 7) (fieldFault s w k e)
     (cond (eqb test 8) (stampFault (logOf s) w k e)
     (cond (eqb test 9) (sourceFault (logOf s) w e)
-    (orderFault (logOf s) e)))
+    (cond (eqb test 10) (orderFault (logOf s) e)
+    (fieldFault s w k e || stampFault (logOf s) w k e || sourceFault (logOf s) w e || orderFault (logOf s) e))))
 
 -- 11: "checkpoint index over the event count or below the previous one; identifier 0 or not above the previous"
 unfoldable pub checkpointFault : Log → ℕ → Checkpoint → Checkpoint → Bool

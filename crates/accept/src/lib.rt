@@ -3,12 +3,13 @@
 use log::Checkpoint;
 use log::Event;
 ghost use mathlib.Core.Path.{_≡_};
+ghost use mathlib.Core.Bool.{_||_};
 ghost use Prim.Native.Nat.{_+_, _<_};
 ghost use Rattle.log.specs.Header.{layout};
 ghost use Rattle.log.specs.Model.{count, eventOf};
 ghost use Rattle.log.specs.Layout.{logOf};
 ghost use Rattle.accept.specs.Records.{kindFault, peerFault, sendFault, fieldFault, stampFault, named, sourceFault, orderFault, eventFault, checkpointFault, recordFault, records, workerFault, someRecord};
-ghost use Rattle.accept.specs.Refusal.{content, refusal};
+ghost use Rattle.accept.specs.Refusal.{eventsNumber, content, refusal};
 
 // Whether the kind is none of 1, 2 and 3.
 fn kind_fault(e: Event) -> bool
@@ -108,7 +109,24 @@ fn order_fault(log: &[u8], e: Event) -> bool
     e.stamp <= source.stamp
 }
 
-// Test 7, 8, 9 or 10 on event k + 1 of worker w.
+// Whether event k + 1 of worker w, which is e, fails one of the tests 7 to 10.
+fn any_fault(log: &[u8], w: usize, k: u32, e: Event) -> bool
+    requires { ⌜ (layout (now log) ≡ 0) × (k < count (logOf (now log)) w) ⌝ }
+    ensures { λ r. ⌜ r ≡ (fieldFault (now (log .entry)) w k e || stampFault (logOf (now (log .entry))) w k e || sourceFault (logOf (now (log .entry))) w e || orderFault (logOf (now (log .entry))) e) ⌝ }
+{
+    if field_fault(log, w, k, e) {
+        return true;
+    }
+    if stamp_fault(log, w, k, e) {
+        return true;
+    }
+    if source_fault(log, w, e) {
+        return true;
+    }
+    order_fault(log, e)
+}
+
+// Test 7, 8, 9 or 10 on event k + 1 of worker w, and any of them for another number.
 fn event_fault(log: &[u8], test: u32, w: usize, k: u32) -> bool
     requires { ⌜ (layout (now log) ≡ 0) × (k < count (logOf (now log)) w) ⌝ }
     ensures { λ r. ⌜ r ≡ eventFault test (now (log .entry)) w k (eventOf (logOf (now (log .entry))) w (k + 1)) ⌝ }
@@ -123,7 +141,10 @@ fn event_fault(log: &[u8], test: u32, w: usize, k: u32) -> bool
     if test == 9 {
         return source_fault(log, w, e);
     }
-    order_fault(log, e)
+    if test == 10 {
+        return order_fault(log, e);
+    }
+    any_fault(log, w, k, e)
 }
 
 // Test 11 on a checkpoint of worker w and the one before it.
@@ -196,11 +217,17 @@ fn some_record(log: &[u8], test: u32) -> bool
     false
 }
 
-// Tests 7 to 11: the number of the first that fails, or 0.
-fn content_refusal(log: &[u8]) -> u32
+// The number of no test: for all events one pass asks whether any test fails.
+const ANY: u32 = 0;
+
+// Tests 7 to 10: the number of the first that fails, or 0.
+fn events_refusal(log: &[u8]) -> u32
     requires { ⌜ layout (now log) ≡ 0 ⌝ }
-    ensures { λ r. ⌜ r ≡ content (now (log .entry)) ⌝ }
+    ensures { λ r. ⌜ r ≡ eventsNumber (now (log .entry)) ⌝ }
 {
+    if !some_record(log, ANY) {
+        return 0;
+    }
     if some_record(log, 7) {
         return 7;
     }
@@ -212,6 +239,18 @@ fn content_refusal(log: &[u8]) -> u32
     }
     if some_record(log, 10) {
         return 10;
+    }
+    0
+}
+
+// Tests 7 to 11: the number of the first that fails, or 0.
+fn content_refusal(log: &[u8]) -> u32
+    requires { ⌜ layout (now log) ≡ 0 ⌝ }
+    ensures { λ r. ⌜ r ≡ content (now (log .entry)) ⌝ }
+{
+    let events = events_refusal(log);
+    if events != 0 {
+        return events;
     }
     if some_record(log, 11) {
         return 11;

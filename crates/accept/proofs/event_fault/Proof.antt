@@ -39,7 +39,14 @@ order-fault-requires c κs = search needs
 
 returns-4 : tie.Need-returns-4
 unfolding eventFault
-returns-4 c = rw (ne-eqb _ _ (c .before .before .before .if1 .left), ne-eqb _ _ (c .before .before .if2 .left), ne-eqb _ _ (c .before .if3 .left), ← c .before .before .before .before .event-at .ensures) (c .order-fault .ensures)
+returns-4 c = rw (ne-eqb _ _ (c .before .before .before .before .if1 .left), ne-eqb _ _ (c .before .before .before .if2 .left), ne-eqb _ _ (c .before .before .if3 .left), eq-eqb _ _ (c .before .if4 .taken), ← c .before .before .before .before .before .event-at .ensures) (c .order-fault .ensures)
+
+any-fault-requires : tie.Need-any-fault-requires
+any-fault-requires c κs = search needs
+
+returns-5 : tie.Need-returns-5
+unfolding eventFault
+returns-5 c = rw (ne-eqb _ _ (c .before .before .before .before .if1 .left), ne-eqb _ _ (c .before .before .before .if2 .left), ne-eqb _ _ (c .before .before .if3 .left), ne-eqb _ _ (c .before .if4 .left), ← c .before .before .before .before .before .event-at .ensures) (c .any-fault .ensures)
 
 pub event-fault-spec : {M : Type 1} → statement M
 event-fault-spec =
@@ -54,4 +61,6 @@ event-fault-spec =
     source-fault-requires
     returns-3
     order-fault-requires
-    returns-4)
+    returns-4
+    any-fault-requires
+    returns-5)
