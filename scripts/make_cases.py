@@ -1,28 +1,45 @@
 #!/usr/bin/env python3
-"""Writes the case files of the crate accept_cases, its arguments and its expected output.
+"""Writes the case files of the programs that run stored cases, their arguments and their expected output.
 
     scripts/make_cases.py            write the files
     scripts/make_cases.py --check    fail if a stored file is not what would be written
 
 A case file is an input of the program `plan`: worker, event, then the log. Each case below states its name, the number
-by which document 01, "Refused by the input", refuses its log (0: accepted), and the log. The number is written by hand.
+by which document 01, "Refused by the input", refuses its log (0: accepted), and the log. The number is written by hand,
+and reference.py must give the same. The expected output is that of expected.py.
 """
 
 import os
 import sys
 
-from logs import Worker, build, case_file, cut_to, extended
+import reference
+from expected import accept_lines, causality_lines
+from logs import Worker, build, case_file, cut_to, extended, tube
 
-CRATE = os.path.join(os.path.dirname(os.path.abspath(__file__)), "..", "crates", "accept_cases")
+CRATES = os.path.join(os.path.dirname(os.path.abspath(__file__)), "..", "crates")
+
+# The crates that run cases, each with the lines of a case.
+LINES = {"accept_cases": accept_lines, "causality_cases": causality_lines}
 
 # The largest input of `plan`.
 LARGEST = 65536
 
-CASES = []
+# The content of each case, by its name.
+CONTENT = {}
+
+# The names of the cases that a crate runs, in order.
+RUN = {crate: [] for crate in LINES}
 
 
-def case(name, number, log, worker=0, event=1):
-    CASES.append((name, number, case_file(worker, event, log)))
+def case(name, number, log, worker=0, event=1, crate="accept_cases"):
+    """A case of a crate. Its log is refused by the number."""
+    content = case_file(worker, event, log)
+    assert name not in CONTENT, "two cases have the name " + name
+    assert content not in CONTENT.values(), name + " has the bytes of another case"
+    assert len(content) <= LARGEST, name + " is too long for an input of plan"
+    assert reference.refusal(log) == number, "%s: %d by the reference" % (name, reference.refusal(log))
+    CONTENT[name] = content
+    RUN[crate].append(name)
 
 
 # The log that most cases change in one place. It has 112 bytes: the header 48, events of worker 0 at 48, its checkpoint
@@ -39,15 +56,6 @@ def two(first=FIRST, second=SECOND, first_checkpoints=((1, 1),), second_checkpoi
 def three(third=(), **changes):
     """The same two workers and a third one. Without events of the third it has 132 bytes, the header 68 of them."""
     return build([Worker(0, FIRST, [(1, 1)]), Worker(1, SECOND, [(2, 1)]), Worker(2, third)], **changes)
-
-
-def tube(kind_of_2_2="receive"):
-    """The tube log. `kind_of_2_2` is the kind of the receive of event 2 of worker 2."""
-    return build([
-        Worker(3, [("receive", 2, 1, 2), ("receive", 1, 3, 5), ("send", 1, 6)], [(1, 1)]),
-        Worker(1, [("send", 2, 1), (kind_of_2_2, 2, 2, 3), ("send", 0, 4), ("receive", 0, 3, 7)], [(1, 1)]),
-        Worker(0, [("send", 0, 1), ("send", 1, 2), ("receive", 1, 1, 3)], [(2, 1)]),
-    ])
 
 
 def each_to_the_next(n):
@@ -338,61 +346,212 @@ case("4_5_6_and_7_at_once", 4, two(
 case("11_before_the_breakpoint", 11, two(second_checkpoints=[(1, 0)]), worker=2, event=0)
 
 
-def files():
+# ---- Vector, lower cut, upper line and cut test: the cases of causality_cases. First those of above that it runs too.
+
+RUN["causality_cases"] += [
+    "tube_log",
+    "tube_log_receive_2_2_logged",
+    "a_send_received_twice",
+    "a_send_never_received",
+    "last_receive_names_a_smaller_send",
+    "sixty_four_workers_with_events",
+    "longest_input",
+    "two_workers_share_all_bytes",
+    # refused
+    "log_of_0_bytes",
+    "form_2",
+    "sixty_five_workers",
+    "one_byte_too_many",
+    "role_4",
+    "empty_events_inside_the_header",
+    "send_to_worker_n",
+    "equal_stamps_of_a_worker",
+    "receive_names_a_receive",
+    "equal_stamps_of_a_send_and_its_receive",
+    "11_before_the_breakpoint",
+    "header_is_the_log_of_1_worker",
+    "header_is_the_log_of_64_workers",
+]
+
+
+def cut_case(name, log, worker, event):
+    case(name, 0, log, worker, event, crate="causality_cases")
+
+
+# Every breakpoint of the tube log but 0/2, which is the case tube_log.
+for worker, last in enumerate((3, 4, 3)):
+    for event in range(1, last + 1):
+        if (worker, event) != (0, 2):
+            cut_case("tube_log_%d_%d" % (worker, event), tube(), worker, event)
+
+# 12: "worker number not below n"; 13: "event 0 or over the worker's count"
+for worker, event in ((0, 0), (0, 4), (1, 5), (0, 65537), (0, 4294967295), (3, 1), (3, 0), (256, 1), (4294967295, 1)):
+    cut_case("tube_log_refused_%d_%d" % (worker, event), tube(), worker, event)
+
+# the largest peer event is named by the first, by the second and by the last receive
+for place, sends in (("first", (4, 2, 3)), ("middle", (2, 4, 3)), ("last", (2, 3, 4))):
+    cut_case("largest_send_named_%s" % place, build([
+        Worker(0, [("receive", 1, send, 10 + x) for x, send in enumerate(sends)]),
+        Worker(0, [("send", 0, stamp) for stamp in (1, 2, 3, 4)]),
+    ]), 0, 3)
+# the cut of worker 2 hangs on the first receive of worker 1, not on its last one
+cut_case("largest_send_named_first_in_a_direct_dependency", build([
+    Worker(0, [("receive", 1, 3, 9)]),
+    Worker(0, [("receive", 2, 2, 6), ("receive", 2, 1, 7), ("send", 0, 8)]),
+    Worker(0, [("send", 1, 1), ("send", 1, 2), ("send", 1, 3)]),
+]), 0, 1)
+
+
+def chain(order):
+    """The first worker of the order sends to the second, that one then to the third, and so on."""
+    workers = [None] * len(order)
+    for place, w in enumerate(order):
+        events = []
+        if place > 0:
+            events.append(("receive", order[place - 1], len(workers[order[place - 1]].events), 2 * place))
+        if place + 1 < len(order):
+            events.append(("send", order[place + 1], 2 * place + 1))
+        workers[w] = Worker(w % 4, events)
+    return workers
+
+
+cut_case("three_workers_deep", build(chain([2, 1, 0])), 0, 1)
+cut_case("five_workers_deep_up", build(chain([4, 3, 2, 1, 0])), 0, 1)
+cut_case("five_workers_deep_down", build(chain([0, 1, 2, 3, 4])), 4, 1)
+cut_case("five_workers_deep_mixed", build(chain([3, 0, 4, 1, 2])), 2, 1)
+cut_case("five_workers_deep_from_the_middle", build(chain([3, 0, 4, 1, 2])), 4, 2)
+cut_case("sixty_four_workers_deep_up", build(chain(list(range(63, -1, -1)))), 0, 1)
+cut_case("sixty_four_workers_deep_down", build(chain(list(range(64)))), 63, 1)
+cut_case("sixty_four_workers_before_the_first", build(chain(list(range(64)))), 0, 1)
+cut_case("sixty_four_workers_from_the_middle", build(chain(list(range(64)))), 31, 1)
+
+# worker 1 is visited at event 1, and again at event 3 because of worker 2
+AGAIN = [
+    Worker(0, [("receive", 1, 1, 8), ("receive", 2, 2, 9)]),
+    Worker(1, [("send", 0, 1), ("send", 2, 2), ("send", 2, 3)]),
+    Worker(2, [("receive", 1, 3, 4), ("send", 0, 5)]),
+]
+cut_case("a_worker_visited_again", build(AGAIN), 0, 2)
+# the same with workers 1 and 2 exchanged: worker 2 is visited at event 3, and its event 1 is then within the cut
+cut_case("a_worker_visited_at_its_largest_event_first", build([
+    Worker(0, [("receive", 2, 1, 8), ("receive", 1, 2, 9)]),
+    Worker(2, [("receive", 2, 3, 4), ("send", 0, 5)]),
+    Worker(1, [("send", 0, 1), ("send", 1, 2), ("send", 1, 3)]),
+]), 0, 2)
+# worker 1 is visited twice, and both times it names the same send of worker 3, which is visited once
+cut_case("a_send_received_again_before_the_second_visit", build([
+    Worker(0, [("receive", 1, 2, 10), ("receive", 2, 2, 11)]),
+    Worker(1, [("receive", 3, 1, 2), ("send", 0, 3), ("receive", 3, 1, 4), ("send", 2, 5)]),
+    Worker(2, [("receive", 1, 4, 6), ("send", 0, 7)]),
+    Worker(3, [("send", 1, 1)]),
+]), 0, 2)
+# what the breakpoint's worker receives after the breakpoint event is not within the cut
+cut_case("receive_after_the_breakpoint", build(AGAIN), 0, 1)
+# worker 1 gets the breakpoint's message by worker 2 before it gets it itself
+cut_case("message_by_another_worker_first", build([
+    Worker(0, [("send", 1, 1), ("send", 2, 2), ("send", 1, 3)]),
+    Worker(0, [("receive", 0, 1, 4), ("receive", 2, 2, 5), ("receive", 0, 3, 6), ("send", 2, 7)]),
+    Worker(0, [("receive", 0, 2, 3), ("send", 1, 4), ("send", 0, 5), ("receive", 1, 4, 8)]),
+]), 0, 2)
+# the breakpoint event is received twice, the first time by a receive with its data logged
+cut_case("breakpoint_received_twice", build([
+    Worker(0, [("send", 1, 1), ("send", 1, 2), ("send", 1, 3)]),
+    Worker(0, [("receive", 0, 3, 4), ("receive", 0, 1, 5), ("logged", 0, 2, 6), ("receive", 0, 2, 7)]),
+]), 0, 2)
+cut_case("breakpoint_never_received", build([
+    Worker(0, [("send", 1, 1), ("send", 1, 2), ("send", 1, 3)]),
+    Worker(0, [("receive", 0, 1, 4), ("send", 0, 5)]),
+]), 0, 2)
+
+
+def exchange(rounds):
+    """Two workers: worker 0 sends, worker 1 receives and sends back, worker 0 receives, and so on."""
+    first, second = [], []
+    for r in range(rounds):
+        first += [("send", 1, 4 * r + 1), ("receive", 1, 2 * r + 2, 4 * r + 4)]
+        second += [("receive", 0, 2 * r + 1, 4 * r + 2), ("send", 0, 4 * r + 3)]
+    return [Worker(0, first), Worker(1, second)]
+
+
+cut_case("exchange_of_300_messages", build(exchange(150)), 0, 200)
+
+
+def many_visits(a, b, c):
+    """A visit to worker 0 leads to a workers, each of these to b more, and each of these visits to c more: no two alike."""
+    n = 1 + a + b + c
+    first = list(range(1, 1 + a))
+    second = list(range(1 + a, 1 + a + b))
+    third = list(range(1 + a + b, n))
+    workers = [Worker() for _ in range(n)]
+    clock = [0]
+
+    def add(w, *event):
+        clock[0] += 1
+        workers[w].events.append(event + (clock[0],))
+        return len(workers[w].events)
+
+    for w in first:
+        for v in second:
+            for u in third:
+                add(v, "receive", u, add(u, "send", v))
+            add(w, "receive", v, add(v, "send", w))
+        add(0, "receive", w, add(w, "send", 0))
+    return workers
+
+
+cut_case("many_visits", build(many_visits(8, 8, 8)), 0, 8)
+# as many visits as "1 + the receives within the cut"
+assert len(reference.figure2(reference.read(CONTENT["many_visits"][8:]), 0, 8)[1]) == 1 + 8 + 8 * 8 + 8 * 8 * 8
+
+
+def files(crate):
     """The content of each file, by its path in the crate."""
-    made = {}
-    lines = []
-    seen = {}
-    for name, number, content in CASES:
-        path = os.path.join("data", name)
-        assert path not in made, "two cases have the name " + name
-        assert content not in seen, name + " has the bytes of " + seen.get(content, "")
-        assert len(content) <= LARGEST, name + " is too long for an input of plan"
-        made[path] = content
-        seen[content] = name
-        lines.append("%s %d\n" % (name, number))
-    made["args"] = "".join(name + "\n" for name, _, _ in CASES).encode()
-    made["stdout"] = "".join(lines).encode()
+    made = {os.path.join("data", name): CONTENT[name] for name in RUN[crate]}
+    made["args"] = "".join(name + "\n" for name in RUN[crate]).encode()
+    made["stdout"] = "".join(LINES[crate](name, CONTENT[name]) for name in RUN[crate]).encode()
     return made
 
 
-def stored():
+def stored(crate):
     """The files of the crate that this script writes, as they are."""
+    folder = os.path.join(CRATES, crate)
     paths = ["args", "stdout"]
-    data = os.path.join(CRATE, "data")
-    if os.path.isdir(data):
-        paths += [os.path.join("data", name) for name in os.listdir(data)]
+    if os.path.isdir(os.path.join(folder, "data")):
+        paths += [os.path.join("data", name) for name in os.listdir(os.path.join(folder, "data"))]
     found = {}
     for path in paths:
-        if os.path.exists(os.path.join(CRATE, path)):
-            with open(os.path.join(CRATE, path), "rb") as file:
+        if os.path.exists(os.path.join(folder, path)):
+            with open(os.path.join(folder, path), "rb") as file:
                 found[path] = file.read()
     return found
 
 
-def check():
-    made, found = files(), stored()
+def check(crate):
+    """The number of files that are not as described."""
+    made, found = files(crate), stored(crate)
     bad = sorted(path for path in set(made) | set(found) if made.get(path) != found.get(path))
     for path in bad:
-        print("not as described: crates/accept_cases/" + path)
-    print("%d cases, %d files not as described" % (len(CASES), len(bad)))
-    return 1 if bad else 0
+        print("not as described: crates/%s/%s" % (crate, path))
+    print("%s: %d cases, %d files not as described" % (crate, len(RUN[crate]), len(bad)))
+    return len(bad)
 
 
-def write():
-    made = files()
-    for path in stored():
+def write(crate):
+    made = files(crate)
+    folder = os.path.join(CRATES, crate)
+    for path in stored(crate):
         if path not in made:
-            os.remove(os.path.join(CRATE, path))
-    os.makedirs(os.path.join(CRATE, "data"), exist_ok=True)
+            os.remove(os.path.join(folder, path))
+    os.makedirs(os.path.join(folder, "data"), exist_ok=True)
     for path, content in made.items():
-        with open(os.path.join(CRATE, path), "wb") as file:
+        with open(os.path.join(folder, path), "wb") as file:
             file.write(content)
-    print("%d cases written" % len(CASES))
+    print("%s: %d cases written" % (crate, len(RUN[crate])))
     return 0
 
 
 if __name__ == "__main__":
     if sys.argv[1:] not in ([], ["--check"]):
         sys.exit(__doc__)
-    sys.exit(check() if sys.argv[1:] else write())
+    made_or_checked = check if sys.argv[1:] else write
+    sys.exit(1 if sum([made_or_checked(crate) for crate in LINES]) else 0)

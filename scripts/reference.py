@@ -1,0 +1,622 @@
+#!/usr/bin/env python3
+"""Document 01 written in Python from its definitions. The expected output of the stored cases comes from here.
+
+    scripts/reference.py --check    the values T1 to T10, and the definitions against brute force on random small logs
+
+An event is named by its worker and its index, (w, x). A cut, a choice's starts and positions are lists of one number for
+each worker.
+"""
+
+import functools
+import itertools
+import random
+import struct
+import sys
+from collections import namedtuple
+
+import logs
+
+SEND, UNLOGGED, LOGGED = 1, 2, 3
+
+# Units of an event by role, for kinds 1, 2 and 3.
+UNITS = {0: (2, 3, 5), 1: (2, 4, 6), 2: (3, 8, 9), 3: (2, 5, 7)}
+
+Event = namedtuple("Event", "kind peer send stamp")
+Checkpoint = namedtuple("Checkpoint", "index identifier")
+
+
+class Refused(Exception):
+    def __init__(self, number):
+        self.number = number
+
+
+def refuse_if(condition, number):
+    if condition:
+        raise Refused(number)
+
+
+class Log:
+    """An accepted log. events[w] has the events of w in record order, checkpoints[w] its recorded checkpoints."""
+
+    def __init__(self, roles, events, checkpoints):
+        self.n = len(roles)
+        self.roles = roles
+        self.events = events
+        self.checkpoints = checkpoints
+
+    def count(self, w):
+        return len(self.events[w])
+
+    def event(self, w, x):
+        return self.events[w][x - 1]
+
+    def every_event(self):
+        return [(w, x) for w in range(self.n) for x in range(1, self.count(w) + 1)]
+
+
+def is_receive(event):
+    return event.kind in (UNLOGGED, LOGGED)
+
+
+# ---- The log, and refusals 1 to 11
+
+
+@functools.lru_cache(maxsize=None)
+def read(data):
+    """The log of these bytes, or Refused."""
+    refuse_if(not 8 <= len(data) <= 4194304, 1)
+    form, n, length = struct.unpack_from("<HHI", data)
+    refuse_if(form != 1, 2)
+    refuse_if(not 1 <= n <= 64, 3)
+    header = 8 + 20 * n
+    refuse_if(length != len(data) or header > len(data), 4)
+
+    entries = [struct.unpack_from("<5I", data, 8 + 20 * w) for w in range(n)]
+    for event_count, _, checkpoint_count, _, role in entries:
+        refuse_if(event_count > 65535 or checkpoint_count > 1024 or role > 3, 5)
+    for event_count, event_offset, checkpoint_count, checkpoint_offset, _ in entries:
+        for start, size in ((event_offset, 12 * event_count), (checkpoint_offset, 8 * checkpoint_count)):
+            refuse_if(start < header or start + size > len(data), 6)
+
+    events = [read_events(data, entry) for entry in entries]
+    for number, is_fault in ((7, record_fault), (8, stamp_fault), (9, source_fault), (10, order_fault)):
+        for w in range(n):
+            for x in range(1, len(events[w]) + 1):
+                refuse_if(is_fault(events, w, x), number)
+    checkpoints = [read_checkpoints(data, entry) for entry in entries]
+    for w in range(n):
+        for c in range(len(checkpoints[w])):
+            refuse_if(checkpoint_fault(events, checkpoints, w, c), 11)
+
+    roles = [entry[4] for entry in entries]
+    events = [[Event(kind, peer, send, stamp) for kind, peer, spare, send, stamp in section] for section in events]
+    return Log(roles, events, checkpoints)
+
+
+def read_events(data, entry):
+    return [struct.unpack_from("<BBHII", data, entry[1] + 12 * k) for k in range(entry[0])]
+
+
+def read_checkpoints(data, entry):
+    return [Checkpoint(*struct.unpack_from("<II", data, entry[3] + 8 * c)) for c in range(entry[2])]
+
+
+def record_fault(events, w, x):
+    """7: kind, spare or peer event not as defined; peer is itself or not below n; a receive's peer event out of range."""
+    kind, peer, spare, send, _ = events[w][x - 1]
+    if kind not in (SEND, UNLOGGED, LOGGED) or spare != 0:
+        return True
+    if peer == w or peer >= len(events):
+        return True
+    if kind == SEND:
+        return send != 0
+    return not 1 <= send <= len(events[peer])
+
+
+def stamp_fault(events, w, x):
+    """8: stamp 0, or not above the worker's previous one."""
+    stamp = events[w][x - 1][4]
+    return stamp == 0 or (x > 1 and stamp <= events[w][x - 2][4])
+
+
+def source_fault(events, w, x):
+    """9: a receive names an event that isn't a send to its worker."""
+    kind, peer, _, send, _ = events[w][x - 1]
+    return kind != SEND and events[peer][send - 1][:2] != (SEND, w)
+
+
+def order_fault(events, w, x):
+    """10: a receive's stamp not above its send's."""
+    kind, peer, _, send, stamp = events[w][x - 1]
+    return kind != SEND and stamp <= events[peer][send - 1][4]
+
+
+def checkpoint_fault(events, checkpoints, w, c):
+    """11: index over the event count or below the previous one; identifier 0 or not above the previous."""
+    index, identifier = checkpoints[w][c]
+    if index > len(events[w]) or identifier == 0:
+        return True
+    if c == 0:
+        return False
+    before = checkpoints[w][c - 1]
+    return index < before.index or identifier <= before.identifier
+
+
+def refusal(data):
+    """Refusals 1 to 11 of a log; 0 where it is accepted."""
+    try:
+        read(data)
+        return 0
+    except Refused as refused:
+        return refused.number
+
+
+# ---- Happened before
+
+
+def causes(log, w, x):
+    """The events that are directly before (w, x): the worker's previous one, and the send that a receive names."""
+    event = log.event(w, x)
+    found = [(w, x - 1)] if x > 1 else []
+    if is_receive(event):
+        found.append((event.peer, event.send))
+    return found
+
+
+def reached(start, steps):
+    """All that is reached from start by one or more steps."""
+    found, left = set(), [start]
+    while left:
+        for event in steps(left.pop()):
+            if event not in found:
+                found.add(event)
+                left.append(event)
+    return found
+
+
+def before(log, w, x):
+    """The events that happened before (w, x)."""
+    return reached((w, x), lambda event: causes(log, *event))
+
+
+def after(log, w, x):
+    """The events that (w, x) happened before."""
+    effects = {event: [] for event in log.every_event()}
+    for event in log.every_event():
+        for cause in causes(log, *event):
+            effects[cause].append(event)
+    return reached((w, x), lambda event: effects[event])
+
+
+# ---- Vector and cuts
+
+
+def vector(log, i, e):
+    """The dependency vector of event e of worker i."""
+    components = [0] * log.n
+    for event in log.events[i][:e]:
+        if is_receive(event):
+            components[event.peer] = max(components[event.peer], event.send)
+    components[i] = e
+    return components
+
+
+def figure2(log, i, e):
+    """The lower cut of event e of worker i, and the events visited, in order."""
+    cut = [0] * log.n
+    cut[i] = e
+    visited = []
+
+    def visit(j, x):
+        visited.append((j, x))
+        for k, component in enumerate(vector(log, j, x)):
+            if component > cut[k]:
+                cut[k] = component
+                visit(k, component)
+
+    visit(i, e)
+    return cut, visited
+
+
+def is_consistent(log, cut):
+    """Whether the send of every receive within the cut is within it."""
+    return all(
+        event.send <= cut[event.peer]
+        for w in range(log.n) for event in log.events[w][:cut[w]] if is_receive(event)
+    )
+
+
+def receives_within(log, cut):
+    return sum(is_receive(event) for w in range(log.n) for event in log.events[w][:cut[w]])
+
+
+def workers_word(cut):
+    return sum(2 ** w for w in range(len(cut)) if cut[w] > 0)
+
+
+def upper_line(log, i, e):
+    """For each worker the events before the first one that (i, e) happened before; all its events if there is none."""
+    later = after(log, i, e)
+    return [min([x - 1 for v, x in later if v == w], default=log.count(w)) for w in range(log.n)]
+
+
+# ---- Plan
+
+
+def offered(log, w):
+    """The checkpoints of a worker: the initial state and the recorded ones."""
+    return [Checkpoint(0, 0)] + log.checkpoints[w]
+
+
+def latest_index(log, w, limit):
+    """The largest index of a checkpoint that is at most the limit."""
+    return max(c.index for c in offered(log, w) if c.index <= limit)
+
+
+def lost(log, cut, starts):
+    """The kind 2 receives after their worker's start and within the cut whose send is not above the sender's start."""
+    return [
+        event
+        for w in range(log.n) for event in log.events[w][starts[w]:cut[w]]
+        if event.kind == UNLOGGED and event.send <= starts[event.peer]
+    ]
+
+
+def is_startable(log, cut, starts):
+    return not lost(log, cut, starts)
+
+
+def plan_starts(log, cut):
+    """The startable choice with every start index the largest: the latest starts, lowered until they are startable."""
+    starts = [latest_index(log, w, cut[w]) for w in range(log.n)]
+    while lost(log, cut, starts):
+        for event in lost(log, cut, starts):
+            if event.send <= starts[event.peer]:
+                starts[event.peer] = latest_index(log, event.peer, event.send - 1)
+    return starts
+
+
+def identifier_of(log, w, index):
+    """Of recorded checkpoints with that index the last one listed gives the identifier; if none is recorded, 0."""
+    return ([0] + [c.identifier for c in log.checkpoints[w] if c.index == index])[-1]
+
+
+def plan_words(log, cut, starts):
+    """Cut, start, identifier for each worker in order."""
+    words = []
+    for w in range(log.n):
+        words += [cut[w], starts[w], identifier_of(log, w, starts[w])]
+    return words
+
+
+def events_of(cut, starts):
+    return sum(cut) - sum(starts)
+
+
+def units_of(log, cut, starts):
+    return sum(
+        UNITS[log.roles[w]][event.kind - 1]
+        for w in range(log.n) for event in log.events[w][starts[w]:cut[w]]
+    )
+
+
+def covers(log, identifier):
+    """Whether the identifier covers (paper, section 5.2)."""
+    index = {}
+    for w in range(log.n):
+        for c in offered(log, w):
+            if c.identifier == identifier:
+                index[w] = c.index
+    if len(index) < log.n:
+        return False
+    return all(
+        event.kind == LOGGED
+        for w in range(log.n) for event in log.events[w][index[w]:]
+        if is_receive(event) and event.send < index[event.peer]
+    )
+
+
+# ---- Replay machine
+
+
+def step(log, cut, starts, positions, w):
+    """The machine's answer to a step of worker w, and the positions after it."""
+    if positions[w] == cut[w]:
+        return 21, positions
+    event = log.event(w, positions[w] + 1)
+    if event.kind == UNLOGGED:
+        if event.send > positions[event.peer]:
+            return 22, positions
+        if event.send <= starts[event.peer]:
+            return 23, positions
+    moved = list(positions)
+    moved[w] += 1
+    return 0, moved
+
+
+def works(log, cut, starts):
+    """Whether some list of steps brings every position to its cut: every list is tried."""
+    seen, left = {tuple(starts)}, [tuple(starts)]
+    while left:
+        positions = left.pop()
+        for w in range(log.n):
+            moved = tuple(step(log, cut, starts, list(positions), w)[1])
+            if moved not in seen:
+                seen.add(moved)
+                left.append(moved)
+    return tuple(cut) in seen
+
+
+# ---- The calls: what each returns, and the lent words after it
+
+
+def onto(new, words):
+    """The lent words after a success: the new ones, and past them as they were."""
+    return list(new) + list(words[len(new):])
+
+
+def check_breakpoint(log, worker, event):
+    refuse_if(worker >= log.n, 12)
+    refuse_if(not 1 <= event <= log.count(worker), 13)
+
+
+def vector_call(data, worker, event, words):
+    """Refusal, words."""
+    try:
+        log = read(data)
+        check_breakpoint(log, worker, event)
+        refuse_if(len(words) < log.n, 14)
+    except Refused as refused:
+        return refused.number, words
+    return 0, onto(vector(log, worker, event), words)
+
+
+def upper_line_call(data, worker, event, words):
+    """Refusal, words."""
+    try:
+        log = read(data)
+        check_breakpoint(log, worker, event)
+        refuse_if(len(words) < log.n, 14)
+    except Refused as refused:
+        return refused.number, words
+    return 0, onto(upper_line(log, worker, event), words)
+
+
+def lower_cut_call(data, worker, event, words, scratch):
+    """Refusal, visits, workers word, words. scratch is the number of scratch words."""
+    try:
+        log = read(data)
+        check_breakpoint(log, worker, event)
+        refuse_if(len(words) < log.n, 14)
+        refuse_if(scratch < log.n * log.n, 15)
+    except Refused as refused:
+        return refused.number, 0, 0, words
+    cut, visited = figure2(log, worker, event)
+    return 0, len(visited), workers_word(cut), onto(cut, words)
+
+
+def cut_test_call(data, words):
+    """Refusal, yes or no."""
+    try:
+        log = read(data)
+        refuse_if(len(words) < log.n, 14)
+        refuse_if(any(words[w] > log.count(w) for w in range(log.n)), 16)
+    except Refused as refused:
+        return refused.number, False
+    return 0, is_consistent(log, words[:log.n])
+
+
+def plan_call(data, worker, event, words, scratch):
+    """Refusal, visits, events, units, workers word, words. scratch is the number of scratch words."""
+    try:
+        log = read(data)
+        check_breakpoint(log, worker, event)
+        refuse_if(len(words) < 3 * log.n, 14)
+        refuse_if(scratch < log.n * log.n, 15)
+    except Refused as refused:
+        return refused.number, 0, 0, 0, 0, words
+    cut, visited = figure2(log, worker, event)
+    starts = plan_starts(log, cut)
+    new = onto(plan_words(log, cut, starts), words)
+    return 0, len(visited), events_of(cut, starts), units_of(log, cut, starts), workers_word(cut), new
+
+
+def covers_call(data, identifier):
+    """Refusal, yes or no."""
+    number = refusal(data)
+    return number, number == 0 and covers(read(data), identifier)
+
+
+def step_call(data, plan, positions, worker):
+    """Answer, positions."""
+    try:
+        log = read(data)
+        refuse_if(worker >= log.n, 12)
+        refuse_if(len(plan) < 3 * log.n or len(positions) < log.n, 14)
+        cut, starts = plan[0:3 * log.n:3], plan[1:3 * log.n:3]
+        for w in range(log.n):
+            refuse_if(not starts[w] <= positions[w] <= cut[w] <= log.count(w), 16)
+    except Refused as refused:
+        return refused.number, positions
+    return step(log, cut, starts, positions, worker)
+
+
+def step_calls(data, plan, positions, workers):
+    """The answer of each call of a list and the positions after it, each call with the positions that the last one left."""
+    results = []
+    for worker in workers:
+        answer, positions = step_call(data, plan, positions, worker)
+        results.append((answer, positions))
+    return results
+
+
+def printed(content):
+    """What the program `plan` prints for this input."""
+    if not 8 <= len(content) <= 65536:
+        return "refused 1\n"
+    worker, event = struct.unpack_from("<II", content)
+    data = content[8:]
+    number, visits, events, units, workers, words = plan_call(data, worker, event, [0] * 192, 4096)
+    if number != 0:
+        return "refused %d\n" % number
+    log = read(data)
+    upper = upper_line(log, worker, event)
+    lines = ["breakpoint %d %d\n" % (worker, event)]
+    for w in range(log.n):
+        cut, start, identifier = words[3 * w:3 * w + 3]
+        line = "process %d role %d cut %d upper %d start %d checkpoint %d\n"
+        lines.append(line % (w, log.roles[w], cut, upper[w], start, identifier))
+    lines.append("visits %d events %d units %d workers %d\n" % (visits, events, units, workers))
+    return "".join(lines)
+
+
+# ---- The self check
+
+PRINTED = """breakpoint 0 2
+process 0 role 3 cut 2 upper 2 start 1 checkpoint 1
+process 1 role 1 cut 3 upper 3 start 1 checkpoint 1
+process 2 role 0 cut 2 upper 3 start 0 checkpoint 0
+visits 3 events 5 units 15 workers 7
+"""
+
+
+def expect(name, found, expected):
+    assert found == expected, "%s: %r, not %r" % (name, found, expected)
+
+
+def check_tube():
+    """T1 to T10, and what `plan` prints."""
+    data = logs.tube()
+    expect("tube log", len(data), 212)
+    log = read(data)
+    expect("T1", vector(log, 0, 2), [2, 3, 1])
+    expect("T2", vector(log, 1, 3), [0, 3, 2])
+    expect("T3", vector(log, 2, 2), [0, 0, 2])
+    cut, visited = figure2(log, 0, 2)
+    expect("T4", (cut, visited), ([2, 3, 2], [(0, 2), (1, 3), (2, 2)]))
+    expect("T5", upper_line(log, 0, 2), [2, 3, 3])
+    expect("T6", plan_starts(log, cut), [1, 1, 0])
+    logged = read(logs.tube("logged"))
+    expect("T7", plan_starts(logged, cut), [1, 1, 2])
+    expect("T7", (events_of(cut, [1, 1, 2]), units_of(logged, cut, [1, 1, 2])), (3, 13))
+    expect("T8", (is_consistent(log, cut), is_consistent(log, [2, 3, 1])), (True, False))
+    plan = plan_call(data, 0, 2, [9] * 10, 9)[5]
+    expect("plan words", plan, [2, 1, 1, 3, 1, 1, 2, 0, 0, 9])
+    expect("T9", step_call(data, plan, [1, 1, 0], 0), (22, [1, 1, 0]))
+    expect("T10", covers(log, 0), True)
+    expect("printed", printed(logs.case_file(0, 2, data)), PRINTED)
+    latest = [2, 1, 1, 3, 1, 1, 2, 2, 1]
+    expect("latest starts", step_call(data, latest, [1, 1, 2], 1), (23, [1, 1, 2]))
+
+
+def check_checkpoints():
+    """Identifiers and covering sets of logs with the answer worked out by hand."""
+    send, receive = ("send", 1, 1), ("receive", 0, 1, 2)
+    first = logs.Worker(0, [send, ("send", 1, 3)], [(0, 2), (0, 5), (1, 6), (2, 7), (2, 9)])
+    log = read(logs.build([first, logs.Worker(0, [receive])]))
+    expect("identifiers", [identifier_of(log, 0, index) for index in (0, 1, 2)], [5, 6, 9])
+    expect("nothing recorded", identifier_of(log, 1, 0), 0)
+    expect("worker 1 lacks the identifier", covers(log, 5), False)
+    expect("tube log, the send is at the checkpoint", covers(read(logs.tube()), 1), True)
+    for kind, covered in (("receive", False), ("logged", True)):
+        second = logs.Worker(0, [(kind, 0, 1, 2)], [(0, 9)])
+        log = read(logs.build([first, second]))
+        expect("a send before the checkpoint, " + kind, covers(log, 9), covered)
+
+
+def random_log(seed):
+    """A small log: receives of any earlier send, also twice; several checkpoints, also of one index."""
+    rng = random.Random(seed)
+    n = rng.randint(1, 4)
+    workers = [logs.Worker(rng.randint(0, 3)) for _ in range(n)]
+    stamps = [0] * n
+    sends = [[] for _ in range(n)]
+    for _ in range(rng.randint(1, 12) if n > 1 else 0):
+        w = rng.randrange(n)
+        if sends[w] and rng.random() < 0.6:
+            peer, send, stamp = rng.choice(sends[w])
+            stamps[w] = max(stamps[w], stamp) + rng.randint(1, 2)
+            workers[w].events.append((rng.choice(["receive", "receive", "logged"]), peer, send, stamps[w]))
+        else:
+            peer = rng.choice([v for v in range(n) if v != w])
+            stamps[w] += rng.randint(1, 2)
+            workers[w].events.append(("send", peer, stamps[w]))
+            sends[peer].append((w, len(workers[w].events), stamps[w]))
+    for worker in workers:
+        indices = sorted(rng.randint(0, len(worker.events)) for _ in range(rng.randint(0, 3)))
+        worker.checkpoints = [(index, 2 * c + rng.randint(1, 2)) for c, index in enumerate(indices)]
+    return logs.build(workers)
+
+
+def every_cut(log):
+    return itertools.product(*[range(log.count(w) + 1) for w in range(log.n)])
+
+
+def at_most(a, b):
+    return all(x <= y for x, y in zip(a, b))
+
+
+def check_cuts(log, i, e):
+    """The lower cut and the upper line against happened before and against all cuts."""
+    cut, visited = figure2(log, i, e)
+    earlier = before(log, i, e)
+    for w, x in log.every_event():
+        expect("within the lower cut", x <= cut[w], (w, x) == (i, e) or (w, x) in earlier)
+        expect("before and after", (w, x) in after(log, i, e), (i, e) in before(log, w, x))
+    assert len(visited) == len(set(visited)) <= 1 + receives_within(log, cut)
+    consistent = [c for c in every_cut(log) if is_consistent(log, c)]
+    holding = [c for c in consistent if c[i] >= e]
+    expect("least", tuple(cut), min(holding, key=sum))
+    assert all(at_most(cut, c) for c in holding)
+    line = upper_line(log, i, e)
+    assert tuple(line) in consistent and line[i] == e
+    for w, x in log.every_event():
+        expect("within the upper line", x <= line[w], (i, e) not in before(log, w, x))
+
+
+def check_plan(log, data, i, e):
+    """The plan against every choice that works on the machine."""
+    cut, _ = figure2(log, i, e)
+    starts = plan_starts(log, cut)
+    options = [sorted({c.index for c in offered(log, w) if c.index <= cut[w]}) for w in range(log.n)]
+    choices = [list(choice) for choice in itertools.product(*options)]
+    assert starts in choices and works(log, cut, starts)
+    for choice in choices:
+        expect("works", works(log, cut, choice), is_startable(log, cut, choice))
+        if works(log, cut, choice):
+            assert at_most(choice, starts)
+            assert events_of(cut, choice) >= events_of(cut, starts)
+            assert units_of(log, cut, choice) >= units_of(log, cut, starts)
+    words = plan_call(data, i, e, [7] * (3 * log.n + 1), log.n * log.n)[5]
+    turns = list(range(log.n)) * (1 + events_of(cut, starts))
+    results = step_calls(data, words, starts, turns)
+    expect("all at their cuts", results[-1], (21, cut))
+    expect("steps done", [answer for answer, _ in results].count(0), events_of(cut, starts))
+
+
+def check_random(logs_tried):
+    """The number of breakpoints tried, and of those whose latest checkpoints are no plan."""
+    tried = lowered = 0
+    for seed in range(logs_tried):
+        data = random_log(seed)
+        log = read(data)
+        for i, e in log.every_event():
+            check_cuts(log, i, e)
+            check_plan(log, data, i, e)
+            cut, _ = figure2(log, i, e)
+            tried += 1
+            lowered += plan_starts(log, cut) != [latest_index(log, w, cut[w]) for w in range(log.n)]
+    return tried, lowered
+
+
+def check():
+    check_tube()
+    check_checkpoints()
+    tried, lowered = check_random(400)
+    print("T1 to T10; %d breakpoints of 400 logs, %d of them with starts below the latest" % (tried, lowered))
+
+
+if __name__ == "__main__":
+    if sys.argv[1:] != ["--check"]:
+        sys.exit(__doc__)
+    check()
