@@ -29,7 +29,8 @@ use Rattle.replay.specs.Machine.{Step, answerOf, movedBy, moved, stepOf,
 use Rattle.restore.specs.Words.{planCut, planStart, cutsIn, startsIn}
 use Rattle.replay.specs.Calls.{disordered, orderRefusal, stateRefusal, IsState, stepRefusal, stepsRefusal, machineAnswer, machinePositions, stepAnswer, stepPositions, calls}
 use Rattle.replay.proofs.Steps.{done-ready, refused, done-raises, moved-long}
-use Rattle.replay.proofs.Words.{at-cuts, plan-cut, plan-start, plan-cuts, plan-starts}
+use Rattle.restore.proofs.Written.{plan-cut, plan-start, plan-cuts, plan-starts-in}
+use Rattle.replay.proofs.Words.{at-cuts}
 
 -- the test of 16 on one worker
 ordered-of : (log : Log) (plan positions : List ℕ) (w : ℕ) → disordered log plan positions w ≡ false
@@ -184,7 +185,7 @@ module _ (s cut : List ℕ) (accepted : refusal s ≡ 0) (isCut : IsCut (logOf s
   pub plan-calls : (workers : List ℕ)
       → calls s (planWords (logOf s) cut) (planStarts (logOf s) cut) workers ≡ run (logOf s) cut (planStarts (logOf s) cut) (planStarts (logOf s) cut) workers
   plan-calls workers =
-      rw (plan-cuts (logOf s) cut (isCut .long), plan-starts (logOf s) cut long) at (calls-run s (planWords (logOf s) cut) (planStarts (logOf s) cut) workers plan-state)
+      rw (plan-cuts (logOf s) cut isCut, plan-starts-in (logOf s) cut (well-formed s accepted) isCut) at (calls-run s (planWords (logOf s) cut) (planStarts (logOf s) cut) workers plan-state)
 
 -- a list of steps that is not refused by what it is lent
 pub steps-ok : (s plan positions : List ℕ) (number answers : ℕ) → stepsRefusal s plan positions number answers ≡ 0 → IsState s plan positions × (number ≤ answers)

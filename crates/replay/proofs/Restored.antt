@@ -26,7 +26,7 @@ use Rattle.restore.specs.Cost.{eventsOf}
 use Rattle.restore.specs.declared.Totals.{Totals}
 use Rattle.restore.specs.Words.{startsIn}
 use Rattle.restore.specs.Calls.{planRefusal, refusedPlan, foundPlan, planAnswer, planWordsAfter}
-use Rattle.restore.proofs.Written.{plan-long, plan-cuts, plan-starts-in}
+use Rattle.restore.proofs.Written.{plan-long, plan-cut, plan-cuts, plan-starts-in}
 use Rattle.restore.proofs.Latest.{AreLatest, plan-latest, plan-starts, plan-starts-latest}
 use Rattle.restore.proofs.Cost.{events-fall, units-fall}
 use Rattle.replay.specs.Machine.{run, after, doneIn, AtCut, Works}
@@ -37,7 +37,6 @@ use Rattle.replay.proofs.Lists.{after-between}
 use Rattle.replay.proofs.Count.{at-cut-done}
 use Rattle.replay.proofs.Progress.{progress}
 use Rattle.replay.proofs.Works.{works-exactly, works-within}
-use Rattle.replay.proofs.Words.{plan-cut}
 use Rattle.replay.proofs.Call.{plan-state}
 use Rattle.replay.proofs.Trace.{trace-length}
 

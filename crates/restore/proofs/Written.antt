@@ -55,28 +55,28 @@ module _ (log : Log) (cut : List ℕ) where
   unfolding planWords
   plan-long = length-tabulate (planWord log cut (planStarts log cut)) (3 * size log)
 
-  written-cut : (w : ℕ) → w < size log → planCut (planWords log cut) w ≡ at cut w
+  pub plan-cut : (w : ℕ) → w < size log → planCut (planWords log cut) w ≡ at cut w
   unfolding planWords planCut planWord
-  written-cut w h =
+  plan-cut w h =
       let r : (3 * w) % 3 ≡ 0 = omega arith in
       let q : (3 * w) / 3 ≡ w = omega arith in
       getD-tabulate (planWord log cut (planStarts log cut)) (3 * size log) (3 * w) 0 (omega arith) ∙ rw (r, q)
 
-  written-start : (w : ℕ) → w < size log → planStart (planWords log cut) w ≡ at (planStarts log cut) w
+  pub plan-start : (w : ℕ) → w < size log → planStart (planWords log cut) w ≡ at (planStarts log cut) w
   unfolding planWords planStart planWord
-  written-start w h =
+  plan-start w h =
       let r : (3 * w + 1) % 3 ≡ 1 = omega arith in
       let q : (3 * w + 1) / 3 ≡ w = omega arith in
       getD-tabulate (planWord log cut (planStarts log cut)) (3 * size log) (3 * w + 1) 0 (omega arith) ∙ rw (r, q)
 
   -- the plan words give the cut ..
   pub plan-cuts : IsCut log cut → cutsIn (planWords log cut) (size log) ≡ cut
-  plan-cuts isCut = cuts-are (planWords log cut) cut (size log) (isCut .long) written-cut
+  plan-cuts isCut = cuts-are (planWords log cut) cut (size log) (isCut .long) plan-cut
 
   -- .. and the starts
   pub plan-starts-in : WellFormed log → IsCut log cut → startsIn (planWords log cut) (size log) ≡ planStarts log cut
   plan-starts-in ok isCut =
-      starts-are (planWords log cut) (planStarts log cut) (size log) (plan-starts-latest log ok cut isCut .are .long) written-start
+      starts-are (planWords log cut) (planStarts log cut) (size log) (plan-starts-latest log ok cut isCut .are .long) plan-start
 
 -- the plan words of an accepted log are held
 pub plan-held : (s cut : List ℕ) → refusal s ≡ 0 → IsCut (logOf s) cut → IsHeld s (planWords (logOf s) cut)
