@@ -4,9 +4,13 @@ import struct
 
 import reference
 
-# The words that causality_cases looks at, and its scratch words.
+# The words that causality_cases looks at (and replay_cases of the positions), those of the plan, and the scratch words.
 LENT = 72
+PLAN_LENT = 200
 ROOM = 4104
+
+# The identifiers that restore_cases tests.
+IDENTIFIERS = (0, 1, 2, 3, 4294967295)
 
 
 def filler(k):
@@ -31,11 +35,11 @@ def accept_lines(name, content):
     return "%s %d\n" % (name, reference.refusal(content[8:]))
 
 
-def after_call(number, n, words):
-    """The end of a call's line: on success its n words, then whether the others are unchanged."""
+def after_call(number, n, words, most=LENT):
+    """The end of a call's line: on success its n words, then whether the others of the words looked at are unchanged."""
     named = 0 if number else n
-    looked_at = list(words) + fillers(LENT)[len(words):]
-    unchanged = looked_at[named:] == fillers(LENT)[named:]
+    looked_at = list(words) + fillers(most)[len(words):]
+    unchanged = looked_at[named:] == fillers(most)[named:]
     shown = "".join(" %d" % word for word in looked_at[:named])
     return " refusal %d words%s others %s\n" % (number, shown, "unchanged" if unchanged else "changed")
 
@@ -85,4 +89,116 @@ def causality_lines(name, content):
     text += "one word too few" + test_of(log, cut[:one_less(n)]) + "\n"
     text += "one less" + tests_changed(log, cut, n, -1)
     text += "one more" + tests_changed(log, cut, n, 1)
+    return text
+
+
+def plan_line(case, n, lent, room):
+    number, visits, events, units, workers, words = reference.plan_call(*case, fillers(lent), room)
+    line = "plan lent %d scratch lent %d visits %d events %d units %d workers %d" % (
+        lent, room, visits, events, units, workers)
+    return line + (" scratch unchanged" if number else "") + after_call(number, 3 * n, words, PLAN_LENT)
+
+
+def covers_line(log, identifier):
+    number, yes = reference.covers_call(log, identifier)
+    return "covers %d refusal %d %s\n" % (identifier, number, "yes" if yes else "no")
+
+
+def restore_lines(name, content):
+    worker, event = struct.unpack_from("<II", content)
+    log = content[8:]
+    n = size(log)
+    short_room = one_less(n * n)
+    text = name + "\n"
+    for lent, room in ((PLAN_LENT, ROOM), (3 * n, n * n), (3 * n, short_room), (one_less(3 * n), short_room)):
+        text += plan_line((log, worker, event), n, lent, room)
+    return text + "".join(covers_line(log, identifier) for identifier in IDENTIFIERS)
+
+
+def begun(case, n):
+    """Refusal, plan words, and the positions: the planned starts, then fillers."""
+    number, _, _, _, _, plan = reference.plan_call(*case, fillers(PLAN_LENT), ROOM)
+    return number, plan, plan[1:3 * n:3] + fillers(LENT)[n:]
+
+
+def worker_numbers(pattern, n):
+    """A list of worker numbers: 0 to n - 1, n, and the largest number for n + 1."""
+    places = range(8 * (n + 2))
+    turns = (
+        [k for k in places],
+        [528 - k for k in places],
+        [k + k // 8 for k in places],
+        [k // 8 for k in places],
+    )[pattern]
+    return [turn % (n + 2) if turn % (n + 2) <= n else 4294967295 for turn in turns]
+
+
+def list_line(case, n, pattern):
+    _, plan, positions = begun(case, n)
+    results = reference.step_calls(case[0], plan, positions, worker_numbers(pattern, n))
+    answers = "".join(" %d" % answer for answer, _ in results)
+    return "list %d answers%s" % (pattern, answers) + positions_after(n, results[-1][1])
+
+
+def positions_after(n, positions):
+    """The n positions after a call, and whether the words past them are unchanged."""
+    return after_call(0, n, positions)[len(" refusal 0"):]
+
+
+def step_shown(log, plan, positions, w):
+    """The answer of a step of worker w, and the position of w after it."""
+    answer, after = reference.step_call(log, plan, positions, w)
+    return " %d %d" % (answer, after[w])
+
+
+def each_changed(words, count, by):
+    """The words with each of the first ones in turn changed by a sum that wraps."""
+    for k in range(count):
+        yield words[:k] + [(words[k] + by) % 2 ** 32] + words[k + 1:]
+
+
+def changed_line(case, n, by, w):
+    _, plan, positions = begun(case, n)
+    text = "changed by %d step of %d plan words" % (by, w)
+    text += "".join(step_shown(case[0], words, positions, w) for words in each_changed(plan, 3 * n, by))
+    text += " positions"
+    text += "".join(step_shown(case[0], plan, words, w) for words in each_changed(positions, n, by))
+    return text + "\n"
+
+
+def lost_line(case, n):
+    """Three steps of each worker from its start, all others starting at their cuts."""
+    text = "others at their cuts"
+    for w in range(n):
+        _, plan, positions = begun(case, n)
+        for v in range(n):
+            if v != w:
+                plan[3 * v + 1] = positions[v] = plan[3 * v]
+        for _ in range(3):
+            answer, positions = reference.step_call(case[0], plan, positions, w)
+            text += " %d %d" % (answer, positions[w])
+    return text + "\n"
+
+
+def short_line(case, n, lent, room, w):
+    _, plan, positions = begun(case, n)
+    answer, after = reference.step_call(case[0], plan[:lent], positions[:room], w)
+    line = "plan lent %d positions lent %d step of %d answer %d" % (lent, room, w, answer)
+    return line + positions_after(n, after + positions[room:])
+
+
+def replay_lines(name, content):
+    worker, event = struct.unpack_from("<II", content)
+    log = content[8:]
+    case = (log, worker, event)
+    n = size(log)
+    number, plan, _ = begun(case, n)
+    text = name + "\nplan" + after_call(number, 3 * n, plan, PLAN_LENT)
+    text += "".join(list_line(case, n, pattern) for pattern in range(4))
+    for w in (0, one_less(n)):
+        for by in (1, 65536, 4294967295):
+            text += changed_line(case, n, by, w)
+    text += lost_line(case, n)
+    for lent, room, w in ((3 * n, n, 0), (one_less(3 * n), n, 0), (3 * n, one_less(n), 0), (one_less(3 * n), one_less(n), n)):
+        text += short_line(case, n, lent, room, w)
     return text

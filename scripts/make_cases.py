@@ -13,13 +13,18 @@ import os
 import sys
 
 import reference
-from expected import accept_lines, causality_lines
+from expected import IDENTIFIERS, accept_lines, causality_lines, replay_lines, restore_lines
 from logs import Worker, build, case_file, cut_to, extended, tube
 
 CRATES = os.path.join(os.path.dirname(os.path.abspath(__file__)), "..", "crates")
 
 # The crates that run cases, each with the lines of a case.
-LINES = {"accept_cases": accept_lines, "causality_cases": causality_lines}
+LINES = {
+    "accept_cases": accept_lines,
+    "causality_cases": causality_lines,
+    "restore_cases": restore_lines,
+    "replay_cases": replay_lines,
+}
 
 # The largest input of `plan`.
 LARGEST = 65536
@@ -403,15 +408,14 @@ cut_case("largest_send_named_first_in_a_direct_dependency", build([
 
 
 def chain(order):
-    """The first worker of the order sends to the second, that one then to the third, and so on."""
-    workers = [None] * len(order)
+    """The first worker of the order sends to the second, that one then to the third, and so on; a worker may come again."""
+    workers = [Worker(w % 4) for w in range(max(order) + 1)]
     for place, w in enumerate(order):
-        events = []
         if place > 0:
-            events.append(("receive", order[place - 1], len(workers[order[place - 1]].events), 2 * place))
+            sender = order[place - 1]
+            workers[w].events.append(("receive", sender, len(workers[sender].events), 2 * place))
         if place + 1 < len(order):
-            events.append(("send", order[place + 1], 2 * place + 1))
-        workers[w] = Worker(w % 4, events)
+            workers[w].events.append(("send", order[place + 1], 2 * place + 1))
     return workers
 
 
@@ -502,6 +506,266 @@ def many_visits(a, b, c):
 cut_case("many_visits", build(many_visits(8, 8, 8)), 0, 8)
 # as many visits as "1 + the receives within the cut"
 assert len(reference.figure2(reference.read(CONTENT["many_visits"][8:]), 0, 8)[1]) == 1 + 8 + 8 * 8 + 8 * 8 * 8
+
+
+# ---- The plan and the covering sets: the cases of restore_cases. First those of above that it runs too.
+
+RUN["restore_cases"] += [name for name in RUN["causality_cases"] if name.startswith("tube_log")] + [
+    "two_workers_share_all_bytes",
+    "a_checkpoint_shares_bytes_with_an_event",
+    "sixty_four_workers_with_events",
+    "longest_input",
+    "checkpoint_count_1024",
+    "identifiers_in_each_byte",
+    "exchange_of_300_messages",
+    "many_visits",
+    # refused
+    "log_of_0_bytes",
+    "form_2",
+    "sixty_five_workers",
+    "one_byte_too_many",
+    "role_4",
+    "empty_events_inside_the_header",
+    "send_to_worker_n",
+    "equal_stamps_of_a_worker",
+    "receive_names_a_receive",
+    "equal_stamps_of_a_send_and_its_receive",
+    "11_before_the_breakpoint",
+    "header_is_the_log_of_1_worker",
+    "header_is_the_log_of_64_workers",
+]
+
+
+def plan_case(name, workers, worker, event, starts, identifiers=None, units=None, covering=(0,)):
+    """A case of restore_cases. Its starts and what else is given were worked out by hand; covering: those of IDENTIFIERS."""
+    log = workers if isinstance(workers, bytes) else build(workers)
+    case(name, 0, log, worker, event, crate="restore_cases")
+    _, _, _, found_units, _, words = reference.plan_call(log, worker, event, [0] * 192, 4096)
+    n = len(starts)
+    assert words[1:3 * n:3] == list(starts), "%s: starts %r by the reference" % (name, words[1:3 * n:3])
+    assert identifiers in (None, words[2:3 * n:3]), "%s: identifiers %r by the reference" % (name, words[2:3 * n:3])
+    assert units in (None, found_units), "%s: units %d by the reference" % (name, found_units)
+    found = tuple(identifier for identifier in IDENTIFIERS if reference.covers_call(log, identifier)[1])
+    assert covering == found, "%s: covering sets %r by the reference" % (name, found)
+
+
+# Every breakpoint of the tube log with receive 2/2 of kind 3, but 0/2. Set 1 covers: no receive after its worker's
+# checkpoint is of a send before the sender's.
+for worker, event, starts in (
+    (0, 1, (1, 0, 0)), (0, 3, (1, 1, 2)),
+    (1, 1, (0, 1, 0)), (1, 2, (0, 1, 2)), (1, 3, (0, 1, 2)), (1, 4, (1, 1, 2)),
+    (2, 1, (0, 0, 0)), (2, 2, (0, 0, 2)), (2, 3, (0, 0, 2)),
+):
+    plan_case("tube_log_receive_2_2_logged_%d_%d" % (worker, event), tube("logged"), worker, event, starts, covering=(0, 1))
+
+
+# ---- Which checkpoint: worker 1 receives the second and then the third of three sends
+
+
+def second_of_three(checkpoints, kind="receive", receiver_checkpoints=()):
+    sends = [("send", 1, stamp) for stamp in (1, 2, 3)]
+    return [Worker(0, sends, checkpoints), Worker(1, [(kind, 0, 2, 4), ("receive", 0, 3, 5)], receiver_checkpoints)]
+
+
+plan_case("checkpoint_at_the_send", second_of_three([(2, 1)]), 1, 1, (0, 0), [0, 0])
+plan_case("checkpoint_before_the_send", second_of_three([(1, 1)]), 1, 1, (1, 0), [1, 0])
+plan_case("checkpoints_at_and_before_the_send", second_of_three([(1, 1), (2, 2)]), 1, 1, (1, 0), [1, 0])
+plan_case("checkpoint_at_the_send_of_a_logged_receive", second_of_three([(1, 1), (2, 2)], "logged"), 1, 1, (2, 0), [2, 0])
+plan_case("checkpoint_at_the_send_of_an_earlier_receive", second_of_three(
+    [(1, 1), (2, 2)], receiver_checkpoints=[(1, 1)]), 1, 1, (2, 1), [2, 1], covering=(0, 1))
+plan_case("checkpoint_at_the_later_send", second_of_three(
+    [(1, 1), (2, 2), (3, 3)], receiver_checkpoints=[(1, 1)]), 1, 2, (2, 1), [2, 1], covering=(0, 1))
+# the second receive of worker 1 is past the cut
+plan_case("receive_past_the_cut", [
+    Worker(0, [("send", 1, 1), ("send", 1, 2), ("receive", 1, 1, 4)], [(1, 1)]),
+    Worker(1, [("send", 0, 3), ("receive", 0, 1, 5)]),
+], 0, 3, (1, 0), [1, 0])
+plan_case("checkpoints_past_the_cut", second_of_three([(1, 1), (3, 2)], receiver_checkpoints=[(2, 1)]), 0, 2,
+    (1, 0), [1, 0], covering=(0, 1))
+plan_case("no_checkpoints", second_of_three([]), 1, 2, (0, 0), [0, 0])
+
+# ---- Several checkpoints of one index, and of index 0
+
+SEVERAL = [(0, 1), (0, 2), (1, 3), (1, 5), (1, 7), (2, 8), (2, 9), (3, 10)]
+plan_case("several_checkpoints_of_index_1", second_of_three(SEVERAL), 1, 1, (1, 0), [7, 0])
+plan_case("several_checkpoints_of_index_2", second_of_three(SEVERAL, "logged"), 1, 1, (2, 0), [9, 0])
+plan_case("several_checkpoints_of_the_last_index", second_of_three([(3, 1), (3, 2), (3, 4)]), 0, 3, (3, 0), [4, 0])
+plan_case("checkpoint_of_index_0_recorded", second_of_three([(0, 3), (2, 4)]), 1, 1, (0, 0), [3, 0])
+plan_case("checkpoints_of_index_0_recorded", second_of_three(
+    [(0, 3), (0, 6), (2, 7)], receiver_checkpoints=[(0, 2), (0, 3)]), 1, 1, (0, 0), [6, 3], covering=(0, 3))
+plan_case("checkpoints_of_index_0_of_a_worker_without_events_in_the_cut", second_of_three(
+    [(1, 1)], receiver_checkpoints=[(0, 2), (0, 4294967295)]), 0, 1, (1, 0), [1, 4294967295])
+
+# ---- 1,024 checkpoints
+
+
+def sends_with_checkpoints(named, kind="receive"):
+    """1,024 sends of worker 0, a checkpoint after each; worker 1 receives one of them and then the last."""
+    return [
+        Worker(0, [("send", 1, x) for x in range(1, 1025)], [(x, x) for x in range(1, 1025)]),
+        Worker(1, [("logged", 0, 1024, 2000), (kind, 0, named, 2001)]),
+    ]
+
+
+for named in (1, 2, 513, 1024):
+    plan_case("lowered_below_send_%d_of_1024" % named, sends_with_checkpoints(named), 1, 2, (named - 1, 0), [named - 1, 0])
+plan_case("latest_of_1024_checkpoints", sends_with_checkpoints(1, "logged"), 1, 2, (1024, 0), [1024, 0])
+plan_case("last_listed_of_1024_checkpoints_of_one_index", [
+    Worker(0, [("send", 1, 1)], [(1, 4 * c + 4) for c in range(1024)]), Worker(),
+], 0, 1, (1, 0), [4096, 0])
+
+# ---- Chains in which one lowered start lowers the next
+
+
+def after_each(what, workers):
+    """These workers with a checkpoint after each of these events."""
+    for worker in workers:
+        indices = [x for x, event in enumerate(worker.events, 1) if event[0] in what]
+        worker.checkpoints = [(x, c) for c, x in enumerate(indices, 1)]
+    return workers
+
+
+def changed(workers, w, events=None, checkpoints=None):
+    """These workers with other events or checkpoints of worker w."""
+    workers[w] = Worker(workers[w].role, workers[w].events if events is None else events,
+        workers[w].checkpoints if checkpoints is None else checkpoints)
+    return workers
+
+
+UP = list(range(64))
+DOWN = UP[::-1]
+plan_case("all_of_64_lowered_up", after_each(["send"], chain(UP)), 63, 1, [0] * 64)
+plan_case("all_of_64_lowered_down", after_each(["send"], chain(DOWN)), 0, 1, [0] * 64)
+# worker 31 may start after its receive: those before it stay at their latest
+plan_case("half_of_64_lowered", changed(after_each(["send"], chain(UP)), 31, checkpoints=[(1, 1), (2, 2)]), 63, 1,
+    [1] + [2] * 30 + [1] + [0] * 32)
+# worker 31 has the data of its receive
+plan_case("half_of_64_lowered_by_a_logged_receive", changed(
+    after_each(["send"], chain(UP)), 31, events=[("logged", 30, 2, 62), ("send", 32, 63)]), 63, 1,
+    [1] + [2] * 30 + [0] * 33)
+# the worker of the breakpoint may start after its receive: nothing is lowered
+plan_case("none_of_64_lowered", changed(after_each(["send"], chain(UP)), 63, checkpoints=[(1, 1)]), 63, 1,
+    [1] + [2] * 62 + [1], covering=(0, 1))
+# each worker but the last is lowered twice: the chain goes to worker 63 and back
+plan_case("all_of_64_lowered_up_and_back", after_each(["send"], chain(UP + DOWN[1:])), 0, 2, [0] * 64, covering=(0, 1))
+plan_case("all_of_64_lowered_down_and_back", after_each(["send"], chain(DOWN + UP[1:])), 63, 2, [0] * 64, covering=(0, 1))
+# on the way back the data of the receive of worker 63 are logged: each is lowered once
+plan_case("each_of_64_lowered_once", changed(
+    after_each(["send"], chain(UP + DOWN[1:])), 63, events=[("logged", 62, 2, 126), ("send", 62, 127)]), 0, 2,
+    [1] + [2] * 62 + [0], covering=(0, 1))
+plan_case("all_of_5_lowered_in_mixed_order", after_each(["send"], chain([3, 0, 4, 1, 2])), 2, 1, [0] * 5)
+# 75 rounds with checkpoints after the sends: every start is lowered round by round to 0
+plan_case("lowered_150_times", after_each(["send"], exchange(75)), 0, 150, (0, 0), covering=(0, 1, 2, 3))
+# with checkpoints after the receives nothing is lowered
+plan_case("lowered_no_time", after_each(["receive"], exchange(75)), 0, 150, (150, 149), covering=(0, 1, 2, 3))
+
+# ---- Kinds mixed, and every role
+
+
+def kinds_mixed(kinds):
+    """Worker 1 receives send 1, send 3, send 2 and send 3 of worker 0, of these kinds. Worker 0 has every checkpoint."""
+    events = [(kind, 0, send, 10 + send + x) for x, (kind, send) in enumerate(zip(kinds, (1, 3, 2, 3)))]
+    for x in range(1, 4):
+        events[x] = events[x][:3] + (max(events[x][3], events[x - 1][3] + 1),)
+    return [Worker(2, [("send", 1, x) for x in (1, 2, 3)], [(1, 1), (2, 2), (3, 3)]), Worker(3, events)]
+
+
+for name, kinds, start in (
+    ("all_logged", ("logged", "logged", "logged", "logged"), 3),
+    ("first_without_data", ("receive", "logged", "logged", "logged"), 0),
+    ("second_without_data", ("logged", "receive", "logged", "logged"), 2),
+    ("third_without_data", ("logged", "logged", "receive", "logged"), 1),
+    ("fourth_without_data", ("logged", "logged", "logged", "receive"), 2),
+    ("second_and_third_without_data", ("logged", "receive", "receive", "logged"), 1),
+):
+    plan_case("kinds_mixed_" + name, kinds_mixed(kinds), 1, 4, (start, 0), [start, 0])
+
+# 1 send, 10 receives without data and 100 with data: the digits of the units are the units of a send, and so on.
+# Worker 1 starts before its send, 1 event of role 0: 2 units more.
+for role, units in ((0, 532), (1, 642), (2, 983), (3, 752)):
+    events = [("send", 1, 1)] + [("receive" if x < 10 else "logged", 1, 1, 2 + x) for x in range(110)]
+    plan_case("units_of_role_%d" % role, [Worker(role, events), Worker(0, [("send", 0, 1)], [(1, 1)])], 0, 111,
+        (0, 0), units=units + 2)
+# every kind in every role is replayed once (56 units), and each other worker's last event is a send to worker 0: 7 + 9
+plan_case("every_kind_in_every_role", [
+    Worker(w, [("send", (w + 1) % 4, 1), ("receive", (w - 1) % 4, 1, 2), ("logged", (w - 1) % 4, 1, 3)]
+        + ([("receive", v, 4, 4 + v) for v in (1, 2, 3)] if w == 0 else [("send", 0, 4)]))
+    for w in range(4)
+], 0, 6, (0, 0, 0, 0), units=56 + 7 + 9)
+
+# ---- Covering sets
+
+
+def covering_workers(kind, first, second, third=None):
+    """Worker 1 receives send 1 of worker 0 as its second event; a third worker without events where it is given."""
+    workers = [
+        Worker(0, [("send", 1, 1), ("send", 1, 2)], first),
+        Worker(1, [("send", 0, 1), (kind, 0, 1, 3)], second),
+    ]
+    return workers + ([] if third is None else [Worker(2, [], third)])
+
+
+# set 1: the send is at the sender's checkpoint; set 2: it is before it; set 3: the receive is before its checkpoint
+SETS = [(1, 1), (2, 2), (2, 3)], [(1, 1), (1, 2), (2, 3)]
+plan_case("covering_set_without_data", covering_workers("receive", *SETS), 1, 2, (1, 2), [1, 3], covering=(0, 1, 3))
+plan_case("covering_set_with_data", covering_workers("logged", *SETS), 1, 2, (1, 2), [1, 3], covering=(0, 1, 2, 3))
+plan_case("set_lacking_in_the_first", covering_workers("logged", [(1, 1), (2, 3)], SETS[1]), 1, 2, (1, 2), [1, 3],
+    covering=(0, 1, 3))
+plan_case("set_lacking_in_the_last", covering_workers("logged", SETS[0], [(1, 1), (1, 2)]), 1, 2, (1, 1), [1, 2],
+    covering=(0, 1, 2))
+plan_case("set_lacking_in_the_middle", covering_workers("logged", SETS[0], [(1, 1), (2, 3)], [(0, 1), (0, 2), (0, 3)]),
+    1, 2, (1, 2, 0), [1, 3, 3], covering=(0, 1, 3))
+plan_case("set_lacking_in_a_worker_without_events", covering_workers("logged", *SETS, [(0, 1), (0, 3)]), 1, 1,
+    (0, 1, 0), [0, 2, 3], covering=(0, 1, 3))
+plan_case("sets_in_a_worker_without_checkpoints", covering_workers("logged", *SETS, []), 1, 1, (0, 1, 0), [0, 2, 0])
+# the same identifier is listed first in one worker and last in the other
+plan_case("set_listed_first_and_last", covering_workers(
+    "receive", [(1, 3), (2, 5)], [(0, 1), (0, 2), (2, 3)]), 0, 2, (2, 0), [5, 2], covering=(0, 3))
+plan_case("set_4294967295", covering_workers("receive", [(2, 4294967295)], [(2, 4294967295)]), 0, 1, (0, 0), [0, 0],
+    covering=(0, 4294967295))
+plan_case("set_4294967295_without_data", covering_workers("receive", [(2, 4294967295)], [(0, 4294967295)]), 0, 2,
+    (2, 0), [4294967295, 4294967295])
+# of the receives after the checkpoints of set 1 just one is without data and of a send before them; receive 20 names the
+# send at the checkpoint, so the plan starts worker 0 before it
+plan_case("one_receive_of_many_without_data", [
+    Worker(0, [("send", 1, x) for x in range(1, 31)], [(20, 1), (20, 2)]),
+    Worker(1, [("logged" if x < 20 and x != 13 else "receive", 0, x, 30 + x) for x in range(1, 31)], [(12, 1), (13, 2)]),
+], 1, 30, (0, 13), [0, 2], covering=(0, 2))
+
+
+# ---- The replay machine: replay_cases runs cases of above, with lists of steps, changed words and short slices
+
+RUN["replay_cases"] += [name for name in RUN["restore_cases"] if name.startswith("tube_log")] + [
+    "two_workers_share_all_bytes",
+    "a_checkpoint_shares_bytes_with_an_event",
+    "checkpoint_count_1024",
+    "checkpoints_at_and_before_the_send",
+    "checkpoint_at_the_send_of_a_logged_receive",
+    "checkpoint_at_the_later_send",
+    "receive_past_the_cut",
+    "checkpoints_past_the_cut",
+    "no_checkpoints",
+    "half_of_64_lowered",
+    "all_of_5_lowered_in_mixed_order",
+    "lowered_no_time",
+    "kinds_mixed_all_logged",
+    "kinds_mixed_second_and_third_without_data",
+    "every_kind_in_every_role",
+    # refused
+    "log_of_0_bytes",
+    "form_2",
+    "sixty_five_workers",
+    "one_byte_too_many",
+    "role_4",
+    "empty_events_inside_the_header",
+    "send_to_worker_n",
+    "equal_stamps_of_a_worker",
+    "receive_names_a_receive",
+    "equal_stamps_of_a_send_and_its_receive",
+    "11_before_the_breakpoint",
+    "header_is_the_log_of_1_worker",
+    "header_is_the_log_of_64_workers",
+]
 
 
 def files(crate):

@@ -1,0 +1,95 @@
+// Words to lend, and what is printed of them.
+
+use libc::STDOUT_FILENO;
+ghost use Prim.Native.Nat.{_≤_};
+ghost use lib.ListN.{length};
+
+// More words than the plan needs for 64 workers: 3 × n, and n × n of scratch.
+pub const LENT: usize = 200;
+
+pub const ROOM: usize = 4104;
+
+pub fn one_less(n: usize) -> usize
+    ensures { λ r. ⌜ r ≤ n ⌝ }
+{
+    if n == 0 {
+        return 0;
+    }
+    n - 1
+}
+
+// What word k holds before a call: a number over every event count.
+fn filler(k: usize) -> u32 {
+    3000000000 + (k % 65536) as u32
+}
+
+pub fn fill(words: &mut [u32]) {
+    let mut k: usize = 0;
+    while k < words.len() {
+        words[k] = filler(k);
+        k += 1;
+    }
+}
+
+// Whether the words from number `from` on are as before the call.
+fn is_unchanged(words: &[u32], from: usize) -> bool {
+    let mut k = from;
+    while k < words.len() {
+        if words[k] != filler(k) {
+            return false;
+        }
+        k += 1;
+    }
+    true
+}
+
+fn wide(x: u32) -> u64 {
+    x as u64
+}
+
+pub fn print(text: &[u8]) {
+    io::write_all(STDOUT_FILENO, text);
+}
+
+pub fn print_number(name: &[u8], number: u64) {
+    print(name);
+    print(b" ");
+    io::print_decimal(STDOUT_FILENO, number);
+}
+
+fn print_words(words: &[u32]) {
+    let mut k: usize = 0;
+    while k < words.len() {
+        print_number(b"", wide(words[k]));
+        k += 1;
+    }
+}
+
+pub fn print_unchanged(name: &[u8], words: &[u32], from: usize) {
+    print(name);
+    if is_unchanged(words, from) {
+        print(b" unchanged");
+        return;
+    }
+    print(b" changed");
+}
+
+// The number of words that a call names: n, or none where it is refused.
+fn named(number: u32, n: usize) -> usize
+    ensures { λ r. ⌜ r ≤ n ⌝ }
+{
+    if number != 0 {
+        return 0;
+    }
+    n
+}
+
+// Prints the words that a call names, and whether the others are unchanged.
+pub fn print_after(number: u32, n: usize, words: &[u32])
+    requires { ⌜ n ≤ length (now words) ⌝ }
+{
+    let count = named(number, n);
+    print(b" words");
+    print_words(&words[..count]);
+    print_unchanged(b" others", words, count);
+}
