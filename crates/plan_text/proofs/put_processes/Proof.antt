@@ -1,0 +1,58 @@
+-- `plan_text::put_processes` meets its contract. Assumes nothing.
+use mathlib.Core.Path.{_≡_, refl}
+use Prim.Native.Nat.{_-_, _≤_}
+use native.Mathlib.Omega.{arith}
+use borrow.Author.Needs.{needs}
+use lib.ListN.{length}
+use Rattle.accept.proofs.Accepted.{accepted-layout}
+use Rattle.plan_text.proofs.put_processes.Statement.{statement}
+use Rattle.plan_text.proofs.put_processes.Tie as tie
+
+abbrev Inv-loop : tie.InvT-loop
+Inv-loop out₀ at log words upper n next₀ w₀ out next w = (length out ≡ length out₀) × (next ≤ length out)
+
+abbrev μ-loop : tie.MeasureT-loop
+μ-loop out₀ at log words upper n next₀ w₀ out next w = n - w
+
+size-of-requires : tie.Need-size-of-requires Inv-loop μ-loop
+size-of-requires c κs = accepted-layout _ (c .before .before .before .before .pre .1)
+
+loop-holds : tie.Need-loop-holds Inv-loop μ-loop
+loop-holds c = (refl, c .before .before .before .before .before .pre .0)
+
+role-of-requires : tie.Need-role-of-requires Inv-loop μ-loop
+role-of-requires c κs = accepted-layout _ (c .before .before .before .before .before .before .before .before .pre .1)
+
+put-process-requires : tie.Need-put-process-requires Inv-loop μ-loop
+put-process-requires c κs = let few = c .before .before .before .before .size-of .ensures .1 in let below = c .before .before .loop-test .taken in (c .before .before .before .loop .inv .1, omega (arith, few, below, c .before .before .before .before .before .before .before .before .before .pre .2), omega (arith, few, below, c .before .before .before .before .before .before .before .before .before .pre .3))
+
+add-w : tie.Need-add-w Inv-loop μ-loop
+add-w c = search needs
+
+loop-less : tie.Need-loop-less Inv-loop μ-loop
+loop-less c = omega arith
+
+loop-again : tie.Need-loop-again Inv-loop μ-loop
+loop-again c = (omega (arith, c .before .out .given, c .before .before .before .before .before .before .loop .inv .0), c .before .before .put-process .ensures)
+
+same-length : tie.Need-same-length Inv-loop μ-loop
+same-length c = c .before .loop .inv .0
+
+returns : tie.Need-returns Inv-loop μ-loop
+returns c = c .before .loop .inv .1
+
+pub put-processes-spec : {M : Type 1} → statement M
+put-processes-spec =
+    tie.close
+    (tie.spec
+    Inv-loop
+    μ-loop
+    size-of-requires
+    loop-holds
+    role-of-requires
+    put-process-requires
+    add-w
+    loop-less
+    loop-again
+    same-length
+    returns)

@@ -1,0 +1,15 @@
+-- `planner::word_of` meets its contract. Assumes nothing.
+use Rattle.planner.specs.Calls.{wordOf}
+use Rattle.planner.proofs.word_of.Statement.{statement}
+use Rattle.planner.proofs.word_of.Tie as tie
+
+returns : tie.Need-returns
+unfolding wordOf
+returns c = rw (c .if1 .taken)
+
+returns-2 : tie.Need-returns-2
+unfolding wordOf
+returns-2 c = rw (c .if1 .left)
+
+pub word-of-spec : {M : Type 1} → statement M
+word-of-spec = tie.close (tie.spec returns returns-2)
