@@ -1,0 +1,213 @@
+//! The content of a log, and its bytes in one layout or another.
+
+use crate::random::Random;
+
+/// The longest log.
+pub const MAX_LOG: usize = 4_194_304;
+
+/// An event.
+#[derive(Clone, Copy, Debug, PartialEq, Eq)]
+pub struct Event {
+    /// 1, 2 or 3.
+    pub kind: u8,
+    /// The other worker.
+    pub peer: u8,
+    /// The index of the send that a receive names, else 0.
+    pub send: u32,
+    /// The Lamport clock value.
+    pub stamp: u32,
+}
+
+impl Event {
+    /// A send.
+    pub fn send(to: usize, stamp: u32) -> Event {
+        Event {
+            kind: 1,
+            peer: to as u8,
+            send: 0,
+            stamp,
+        }
+    }
+
+    /// A receive of kind 2 or 3 that names send `send` of worker `from`.
+    pub fn receive(kind: u8, from: usize, send: u32, stamp: u32) -> Event {
+        Event {
+            kind,
+            peer: from as u8,
+            send,
+            stamp,
+        }
+    }
+
+    fn bytes(&self) -> [u8; 12] {
+        let mut bytes = [0; 12];
+        bytes[0] = self.kind;
+        bytes[1] = self.peer;
+        bytes[4..8].copy_from_slice(&self.send.to_le_bytes());
+        bytes[8..].copy_from_slice(&self.stamp.to_le_bytes());
+        bytes
+    }
+}
+
+/// A worker.
+#[derive(Clone, Debug, Default, PartialEq, Eq)]
+pub struct Worker {
+    /// 0 to 3.
+    pub role: u32,
+    /// The events, in order.
+    pub events: Vec<Event>,
+    /// The checkpoints in order: index and identifier.
+    pub checkpoints: Vec<(u32, u32)>,
+}
+
+impl Worker {
+    fn event_bytes(&self) -> Vec<u8> {
+        self.events.iter().flat_map(Event::bytes).collect()
+    }
+
+    fn checkpoint_bytes(&self) -> Vec<u8> {
+        self.checkpoints
+            .iter()
+            .flat_map(|&(index, identifier)| [index.to_le_bytes(), identifier.to_le_bytes()])
+            .flatten()
+            .collect()
+    }
+}
+
+/// A log's content.
+#[derive(Clone, Debug, Default, PartialEq, Eq)]
+pub struct Description {
+    /// The workers, in order.
+    pub workers: Vec<Worker>,
+}
+
+/// Writes a 32-bit number at a place of the log.
+pub fn put(log: &mut [u8], at: usize, number: u32) {
+    log[at..at + 4].copy_from_slice(&number.to_le_bytes());
+}
+
+/// The 32-bit number at a place of the log.
+pub fn get(log: &[u8], at: usize) -> u32 {
+    u32::from_le_bytes([log[at], log[at + 1], log[at + 2], log[at + 3]])
+}
+
+impl Description {
+    /// The tube log of document 01.
+    pub fn tube() -> Description {
+        let worker = |role, events: &[Event], index| Worker {
+            role,
+            events: events.to_vec(),
+            checkpoints: vec![(index, 1)],
+        };
+        Description {
+            workers: vec![
+                worker(
+                    3,
+                    &[
+                        Event::receive(2, 2, 1, 2),
+                        Event::receive(2, 1, 3, 5),
+                        Event::send(1, 6),
+                    ],
+                    1,
+                ),
+                worker(
+                    1,
+                    &[
+                        Event::send(2, 1),
+                        Event::receive(2, 2, 2, 3),
+                        Event::send(0, 4),
+                        Event::receive(2, 0, 3, 7),
+                    ],
+                    1,
+                ),
+                worker(
+                    0,
+                    &[
+                        Event::send(0, 1),
+                        Event::send(1, 2),
+                        Event::receive(2, 1, 1, 3),
+                    ],
+                    2,
+                ),
+            ],
+        }
+    }
+
+    /// The number of events of all workers.
+    pub fn events(&self) -> usize {
+        self.workers.iter().map(|w| w.events.len()).sum()
+    }
+
+    fn header_length(&self) -> usize {
+        8 + 20 * self.workers.len()
+    }
+
+    fn start(&self) -> Vec<u8> {
+        let mut log = vec![0; self.header_length()];
+        log[0] = 1;
+        log[2..4].copy_from_slice(&(self.workers.len() as u16).to_le_bytes());
+        for (w, worker) in self.workers.iter().enumerate() {
+            put(&mut log, 8 + 20 * w, worker.events.len() as u32);
+            put(&mut log, 16 + 20 * w, worker.checkpoints.len() as u32);
+            put(&mut log, 24 + 20 * w, worker.role);
+        }
+        log
+    }
+
+    fn finish(mut log: Vec<u8>) -> Vec<u8> {
+        let length = log.len() as u32;
+        put(&mut log, 4, length);
+        log
+    }
+
+    /// The log with each worker's events and then its checkpoints, in worker order, without gaps.
+    pub fn pack(&self) -> Vec<u8> {
+        let mut log = self.start();
+        for (w, worker) in self.workers.iter().enumerate() {
+            let offset = log.len() as u32;
+            put(&mut log, 12 + 20 * w, offset);
+            log.extend(worker.event_bytes());
+            let offset = log.len() as u32;
+            put(&mut log, 20 + 20 * w, offset);
+            log.extend(worker.checkpoint_bytes());
+        }
+        Description::finish(log)
+    }
+
+    /// The log with its sections in any order, with gaps of any bytes, and sharing bytes where a section's bytes are there already.
+    pub fn lay_out(&self, random: &mut Random) -> Vec<u8> {
+        let mut log = self.start();
+        let header = log.len();
+        let mut sections: Vec<(usize, Vec<u8>)> = Vec::new();
+        for (w, worker) in self.workers.iter().enumerate() {
+            sections.push((12 + 20 * w, worker.event_bytes()));
+            sections.push((20 + 20 * w, worker.checkpoint_bytes()));
+        }
+        random.shuffle(&mut sections);
+        let gaps = random.chance(500);
+        for (field, bytes) in sections {
+            if gaps && random.chance(500) {
+                let gap = random.within(1, 40);
+                log.extend(random.bytes(gap));
+            }
+            let there = if bytes.is_empty() {
+                Some(random.within(header, log.len()))
+            } else if random.chance(800) {
+                find(&log, header, &bytes)
+            } else {
+                None
+            };
+            let offset = there.unwrap_or(log.len());
+            if there.is_none() {
+                log.extend(&bytes);
+            }
+            put(&mut log, field, offset as u32);
+        }
+        Description::finish(log)
+    }
+}
+
+/// A place at or after `from` where these bytes are.
+fn find(log: &[u8], from: usize, bytes: &[u8]) -> Option<usize> {
+    (from..=log.len().checked_sub(bytes.len())?).find(|&at| log[at..].starts_with(bytes))
+}

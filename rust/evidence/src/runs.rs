@@ -1,0 +1,363 @@
+//! Logs of simulated runs, and logs of a given shape.
+
+use crate::description::{get, put, Description, Event, Worker, MAX_LOG};
+use crate::random::Random;
+
+/// What a simulated run is like. Shares are of 1,000.
+#[derive(Clone, Debug)]
+pub struct Shape {
+    /// The worker count.
+    pub workers: usize,
+    /// The events of the whole run.
+    pub events: usize,
+    /// The share of receives among the events of a worker to which something was sent.
+    pub receives: usize,
+    /// The share of receives with their data logged.
+    pub logged: usize,
+    /// The share of receives that take any send to the worker, an early or received one too; the others take a late one.
+    pub any: usize,
+    /// The share of events after which the worker takes a checkpoint.
+    pub checkpoints: usize,
+    /// The checkpoint sets, which most or all workers take with one identifier.
+    pub sets: usize,
+    /// The share of workers that take part in a set.
+    pub joined: usize,
+    /// The largest step of a stamp.
+    pub stamp_step: usize,
+}
+
+impl Shape {
+    /// A shape of any kind with at most these numbers of workers and events.
+    pub fn any(random: &mut Random, workers: usize, events: usize) -> Shape {
+        let events = random.within(0, events);
+        let widest = u32::MAX as usize / (events + 2);
+        Shape {
+            workers: random.within(1, workers),
+            events,
+            receives: random.pick(&[100, 300, 500, 700, 950]),
+            logged: random.pick(&[0, 100, 500, 900, 1_000]),
+            any: random.pick(&[0, 50, 300, 1_000]),
+            checkpoints: random.pick(&[0, 20, 100, 400]),
+            sets: random.within(0, 6),
+            joined: random.pick(&[700, 950, 1_000]),
+            stamp_step: random.pick(&[1, 1, 5, widest]),
+        }
+    }
+
+    /// A shape for long runs: half receives, checkpoints now and then, sets that all workers take.
+    pub fn long(workers: usize, events: usize) -> Shape {
+        Shape {
+            workers,
+            events,
+            receives: 500,
+            logged: 300,
+            any: 50,
+            checkpoints: 10,
+            sets: 20,
+            joined: 1_000,
+            stamp_step: 3,
+        }
+    }
+}
+
+/// The state of a run.
+struct Run<'a> {
+    random: &'a mut Random,
+    workers: Vec<Worker>,
+    stamps: Vec<u32>,
+    /// For each worker the sends to it: sender, index, stamp.
+    sent: Vec<Vec<(usize, u32, u32)>>,
+    identifier: u32,
+}
+
+impl Run<'_> {
+    fn checkpoint(&mut self, w: usize, identifier: u32) {
+        let worker = &mut self.workers[w];
+        if worker.checkpoints.len() < 1_024 {
+            worker
+                .checkpoints
+                .push((worker.events.len() as u32, identifier));
+        }
+    }
+
+    fn next_identifier(&mut self) -> u32 {
+        self.identifier += self.random.within(1, 3) as u32;
+        self.identifier
+    }
+
+    fn set(&mut self, joined: usize) {
+        let identifier = self.next_identifier();
+        for w in 0..self.workers.len() {
+            if self.random.chance(joined) {
+                self.checkpoint(w, identifier);
+            }
+        }
+    }
+
+    fn event(&mut self, w: usize, shape: &Shape) {
+        let step = self.random.within(1, shape.stamp_step) as u32;
+        let waiting = self.sent[w].len();
+        let event = if waiting > 0 && self.random.chance(shape.receives) {
+            let at = if self.random.chance(shape.any) {
+                self.random.below(waiting)
+            } else {
+                waiting - 1 - self.random.below(waiting.min(4))
+            };
+            let (from, index, stamp) = self.sent[w][at];
+            let kind = if self.random.chance(shape.logged) {
+                3
+            } else {
+                2
+            };
+            Event::receive(kind, from, index, self.stamps[w].max(stamp) + step)
+        } else {
+            let to = (w + self.random.within(1, self.workers.len() - 1)) % self.workers.len();
+            let stamp = self.stamps[w] + step;
+            let index = self.workers[w].events.len() as u32 + 1;
+            self.sent[to].push((w, index, stamp));
+            Event::send(to, stamp)
+        };
+        self.stamps[w] = event.stamp;
+        self.workers[w].events.push(event);
+    }
+}
+
+/// The log of a simulated run. A send may be received twice or never, and in any order.
+pub fn run(shape: &Shape, random: &mut Random) -> Description {
+    let n = shape.workers;
+    let roles: Vec<u32> = (0..n).map(|_| random.below(4) as u32).collect();
+    let mut state = Run {
+        random,
+        workers: roles
+            .into_iter()
+            .map(|role| Worker {
+                role,
+                ..Worker::default()
+            })
+            .collect(),
+        stamps: vec![0; n],
+        sent: vec![Vec::new(); n],
+        identifier: 0,
+    };
+    let events = if n < 2 { 0 } else { shape.events };
+    let sets: Vec<usize> = (0..shape.sets)
+        .map(|_| state.random.within(0, events))
+        .collect();
+    for tick in 0..=events {
+        for _ in sets.iter().filter(|&&at| at == tick) {
+            state.set(shape.joined);
+        }
+        if tick == events {
+            break;
+        }
+        let mut w = state.random.below(n);
+        while state.workers[w].events.len() == 65_535 {
+            w = (w + 1) % n;
+        }
+        state.event(w, shape);
+        if state.random.chance(shape.checkpoints) {
+            let identifier = state.next_identifier();
+            state.checkpoint(w, identifier);
+        }
+    }
+    Description {
+        workers: state.workers,
+    }
+}
+
+/// Gives some workers content that another one has, so that their sections can share bytes: checkpoints, or a row of sends.
+pub fn make_alike(description: &mut Description, random: &mut Random) {
+    let n = description.workers.len();
+    for _ in 0..random.within(1, 3) {
+        let (from, to) = (random.below(n), random.below(n));
+        let checkpoints = description.workers[from].checkpoints.clone();
+        let worker = &mut description.workers[to];
+        let last = checkpoints.last().map_or(0, |&(index, _)| index);
+        if last as usize <= worker.events.len() {
+            worker.checkpoints = checkpoints;
+        }
+        if worker.events.is_empty() {
+            let sends = description.workers[from]
+                .events
+                .iter()
+                .copied()
+                .skip(random.below(4))
+                .take_while(|e| e.kind == 1 && usize::from(e.peer) != to)
+                .collect();
+            description.workers[to].events = sends;
+        }
+    }
+}
+
+/// A valid log of at most these numbers of workers and events, in any layout.
+pub fn any_log(random: &mut Random, workers: usize, events: usize) -> Vec<u8> {
+    let shape = Shape::any(random, workers, events);
+    let mut description = run(&shape, random);
+    if random.chance(400) {
+        make_alike(&mut description, random);
+    }
+    let mut log = if random.chance(300) {
+        description.pack()
+    } else {
+        description.lay_out(random)
+    };
+    if random.chance(200) {
+        share_any_bytes(&mut log, random);
+    }
+    log
+}
+
+/// Points an empty section at any bytes of the log that happen to be a record that may stand there: bytes of other records, of a
+/// gap, and of no record's own place.
+fn share_any_bytes(log: &mut [u8], random: &mut Random) {
+    let n = usize::from(log[2]);
+    let w = random.below(n);
+    let entry = 8 + 20 * w;
+    let of_events = random.chance(500);
+    let (count_field, size) = if of_events {
+        (entry, 12)
+    } else {
+        (entry + 8, 8)
+    };
+    if get(log, count_field) != 0 {
+        return;
+    }
+    let count = get(log, entry);
+    let may_stand = |record: &[u8]| {
+        if of_events {
+            let peer = usize::from(record[1]);
+            record[0] == 1 && peer < n && peer != w && record[2..8] == [0; 6] && get(record, 8) > 0
+        } else {
+            get(record, 0) <= count && get(record, 4) > 0
+        }
+    };
+    let places: Vec<usize> = (8 + 20 * n..(log.len() + 1).saturating_sub(size))
+        .filter(|&at| may_stand(&log[at..at + size]))
+        .collect();
+    if !places.is_empty() {
+        let at = random.pick(&places);
+        put(log, count_field, 1);
+        put(log, count_field + 4, at as u32);
+    }
+}
+
+/// A log that makes Figure 2 visit 2^`levels` events below worker `levels`, with the other workers in a chain above it, so that
+/// the visits are `workers` deep. The breakpoint is the last event of the last worker.
+///
+/// Level k is level 0, level 1, .. level k - 1, each ended by a send of its worker to worker k, and then the receives of these
+/// sends by worker k. A visit to worker k goes to worker 0 first, though the later sends to it depend on later events of worker 0.
+pub fn deep(workers: usize, levels: usize) -> Description {
+    let mut run = InOrder {
+        workers: vec![Worker::default(); workers],
+        stamp: 0,
+    };
+    run.level(levels);
+    for k in levels + 1..workers {
+        run.send(k - 1, k);
+        run.receive(k - 1, k);
+    }
+    let mut description = Description {
+        workers: run.workers,
+    };
+    for (w, worker) in description.workers.iter_mut().enumerate() {
+        worker.role = (w % 4) as u32;
+        let count = worker.events.len() as u32;
+        worker.checkpoints = (0..8).map(|k| (count * k / 8, k + 1)).collect();
+    }
+    description
+}
+
+/// A run in which each event has the next stamp.
+struct InOrder {
+    workers: Vec<Worker>,
+    stamp: u32,
+}
+
+impl InOrder {
+    fn send(&mut self, from: usize, to: usize) {
+        self.stamp += 1;
+        self.workers[from].events.push(Event::send(to, self.stamp));
+    }
+
+    /// Worker `to` receives the last event of worker `from`.
+    fn receive(&mut self, from: usize, to: usize) {
+        self.stamp += 1;
+        let send = self.workers[from].events.len() as u32;
+        self.workers[to]
+            .events
+            .push(Event::receive(2, from, send, self.stamp));
+    }
+
+    fn level(&mut self, k: usize) {
+        let mut sends = Vec::new();
+        for j in 0..k {
+            self.level(j);
+            self.send(j, k);
+            sends.push((j, self.workers[j].events.len() as u32));
+        }
+        for (j, send) in sends {
+            self.stamp += 1;
+            self.workers[k]
+                .events
+                .push(Event::receive(2, j, send, self.stamp));
+        }
+    }
+}
+
+/// A log in which worker 0 receives `events` sends, one of each other worker in turn.
+pub fn hub(workers: usize, events: usize) -> Description {
+    let mut description = Description {
+        workers: vec![Worker::default(); workers],
+    };
+    for k in 0..events {
+        let from = 1 + k % (workers - 1);
+        let stamp = 2 * k as u32;
+        description.workers[from]
+            .events
+            .push(Event::send(0, stamp + 1));
+        let send = description.workers[from].events.len() as u32;
+        let kind = if k % 3 == 0 { 3 } else { 2 };
+        description.workers[0]
+            .events
+            .push(Event::receive(kind, from, send, stamp + 2));
+    }
+    for worker in &mut description.workers {
+        let count = worker.events.len() as u32;
+        worker.checkpoints = (0..16).map(|k| (count * k / 16, k + 1)).collect();
+    }
+    description
+}
+
+/// A log in which one message at a time goes round the workers but worker 0, from each to the next lower one and from worker 1 to
+/// the last: about `events` events, a send or a receive each. At the end worker 1 sends to worker 0, whose only event is the receive.
+pub fn ring(workers: usize, events: usize) -> Description {
+    let mut run = InOrder {
+        workers: vec![Worker::default(); workers],
+        stamp: 0,
+    };
+    for _ in 0..events / 2 / (workers - 1) {
+        run.send(1, workers - 1);
+        run.receive(1, workers - 1);
+        for from in (2..workers).rev() {
+            run.send(from, from - 1);
+            run.receive(from, from - 1);
+        }
+    }
+    run.send(1, 0);
+    run.receive(1, 0);
+    for worker in &mut run.workers {
+        let count = worker.events.len() as u32;
+        worker.checkpoints = (0..20).map(|k| (count * k / 20, k + 1)).collect();
+    }
+    Description {
+        workers: run.workers,
+    }
+}
+
+/// A log of 64 workers and close to 4 MiB.
+pub fn widest(random: &mut Random) -> Description {
+    let events = (MAX_LOG - 8 - 20 * 64 - 64 * 60 * 8) / 12 - 64 * 30;
+    let mut shape = Shape::long(64, events);
+    shape.checkpoints = 5;
+    run(&shape, random)
+}

@@ -1,0 +1,329 @@
+//! The reference against the definitions of document 01, taken literally, on small logs.
+
+use evidence::description::{Description, Worker};
+use evidence::random::Random;
+use evidence::runs::{run, Shape};
+
+/// A log's content with the events that happened before each event, as bits.
+struct Model {
+    workers: Vec<Worker>,
+    /// The bit of each worker's first event.
+    first: Vec<usize>,
+    past: Vec<u128>,
+}
+
+impl Model {
+    fn new(description: Description) -> Model {
+        let workers = description.workers;
+        let mut first = Vec::new();
+        let mut events = Vec::new();
+        for (w, worker) in workers.iter().enumerate() {
+            first.push(events.len());
+            events.extend((0..worker.events.len()).map(|k| (w, k)));
+        }
+        let mut model = Model {
+            past: vec![0; events.len()],
+            workers,
+            first,
+        };
+        // An event happened before another only if its stamp is smaller.
+        events.sort_by_key(|&(w, k)| model.workers[w].events[k].stamp);
+        for (w, k) in events {
+            let event = model.workers[w].events[k];
+            let at = model.first[w] + k;
+            let mut before = 0;
+            if k > 0 {
+                before |= model.past[at - 1] | 1 << (at - 1);
+            }
+            if event.kind != 1 {
+                let send = model.first[usize::from(event.peer)] + event.send as usize - 1;
+                before |= model.past[send] | 1 << send;
+            }
+            model.past[at] = before;
+        }
+        model
+    }
+
+    fn count(&self, w: usize) -> u32 {
+        self.workers[w].events.len() as u32
+    }
+
+    fn bit(&self, w: usize, x: u32) -> usize {
+        self.first[w] + x as usize - 1
+    }
+
+    /// Whether event x of worker w happened before event e of worker i.
+    fn happened_before(&self, (w, x): (usize, u32), (i, e): (usize, u32)) -> bool {
+        self.past[self.bit(i, e)] >> self.bit(w, x) & 1 == 1
+    }
+
+    fn component(&self, i: usize, e: u32, k: usize) -> u32 {
+        if k == i {
+            return e;
+        }
+        self.workers[i].events[..e as usize]
+            .iter()
+            .filter(|event| event.kind != 1 && usize::from(event.peer) == k)
+            .map(|event| event.send)
+            .max()
+            .unwrap_or(0)
+    }
+
+    fn visit(&self, i: usize, e: u32, cut: &mut [u32], visits: &mut u64) {
+        *visits += 1;
+        for k in 0..self.workers.len() {
+            let component = self.component(i, e, k);
+            if component > cut[k] {
+                cut[k] = component;
+                self.visit(k, component, cut, visits);
+            }
+        }
+    }
+
+    fn is_consistent(&self, cut: &[u32]) -> bool {
+        self.workers.iter().zip(cut).all(|(worker, &c)| {
+            worker.events[..c as usize]
+                .iter()
+                .all(|event| event.kind == 1 || event.send <= cut[usize::from(event.peer)])
+        })
+    }
+
+    fn is_startable(&self, cut: &[u32], starts: &[u32]) -> bool {
+        (0..self.workers.len()).all(|w| {
+            self.workers[w].events[starts[w] as usize..cut[w] as usize]
+                .iter()
+                .all(|event| event.kind != 2 || event.send > starts[usize::from(event.peer)])
+        })
+    }
+
+    /// The answer of a step by the text of "Replay machine" and the tables.
+    fn answer(&self, cut: &[u32], starts: &[u32], positions: &[u32], w: usize) -> u32 {
+        if positions[w] == cut[w] {
+            return 21;
+        }
+        let event = self.workers[w].events[positions[w] as usize];
+        let k = usize::from(event.peer);
+        if event.kind == 1
+            || event.kind == 3
+            || (event.send > starts[k] && event.send <= positions[k])
+        {
+            0
+        } else if event.send > positions[k] {
+            22
+        } else {
+            23
+        }
+    }
+
+    /// Whether some list of steps brings every position to its cut. A done step never hinders another one.
+    fn works(&self, cut: &[u32], starts: &[u32]) -> bool {
+        let mut positions = starts.to_vec();
+        loop {
+            let next = (0..cut.len()).find(|&w| self.answer(cut, starts, &positions, w) == 0);
+            match next {
+                Some(w) => positions[w] += 1,
+                None => return positions == cut,
+            }
+        }
+    }
+
+    /// All choices of a checkpoint index at most the cut for each worker.
+    fn choices(&self, cut: &[u32]) -> Vec<Vec<u32>> {
+        let mut choices = vec![Vec::new()];
+        for (worker, &c) in self.workers.iter().zip(cut) {
+            let mut indices = vec![0];
+            indices.extend(worker.checkpoints.iter().map(|&(index, _)| index));
+            indices.retain(|&index| index <= c);
+            indices.dedup();
+            choices = choices
+                .iter()
+                .flat_map(|choice: &Vec<u32>| {
+                    indices.iter().map(move |&index| {
+                        let mut longer = choice.clone();
+                        longer.push(index);
+                        longer
+                    })
+                })
+                .collect();
+        }
+        choices
+    }
+
+    fn identifier(&self, w: usize, index: u32) -> u32 {
+        self.workers[w]
+            .checkpoints
+            .iter()
+            .rev()
+            .find(|checkpoint| checkpoint.0 == index)
+            .map_or(0, |checkpoint| checkpoint.1)
+    }
+
+    fn units(&self, cut: &[u32], starts: &[u32]) -> u64 {
+        let mut units = 0;
+        for (w, worker) in self.workers.iter().enumerate() {
+            for event in &worker.events[starts[w] as usize..cut[w] as usize] {
+                units += match (worker.role, event.kind) {
+                    (0, 1) => 2,
+                    (0, 2) => 3,
+                    (0, 3) => 5,
+                    (1, 1) => 2,
+                    (1, 2) => 4,
+                    (1, 3) => 6,
+                    (2, 1) => 3,
+                    (2, 2) => 8,
+                    (2, 3) => 9,
+                    (3, 1) => 2,
+                    (3, 2) => 5,
+                    (3, 3) => 7,
+                    other => unreachable!("{other:?}"),
+                };
+            }
+        }
+        units
+    }
+
+    fn covers(&self, t: u32) -> bool {
+        let index = |w: usize| {
+            if t == 0 {
+                return Some(0);
+            }
+            let mut checkpoints = self.workers[w].checkpoints.iter();
+            checkpoints.find(|c| c.1 == t).map(|c| c.0)
+        };
+        (0..self.workers.len()).all(|w| {
+            index(w).is_some_and(|own| {
+                self.workers[w].events[own as usize..].iter().all(|event| {
+                    let sender = index(usize::from(event.peer));
+                    event.kind == 1
+                        || event.kind == 3
+                        || sender.is_some_and(|checkpoint| event.send >= checkpoint)
+                })
+            })
+        })
+    }
+}
+
+fn small(random: &mut Random) -> Description {
+    let mut shape = Shape::any(random, 4, 26);
+    shape.checkpoints = random.pick(&[50, 200]);
+    shape.sets = random.within(0, 2);
+    run(&shape, random)
+}
+
+#[test]
+fn every_event_of_small_logs() {
+    let mut random = Random::new(1);
+    let mut lowered = 0;
+    for _ in 0..1_500 {
+        let description = small(&mut random);
+        let log = description.pack();
+        let model = Model::new(description);
+        assert_eq!(reference::log_refusal(&log), 0);
+        for i in 0..model.workers.len() {
+            for e in 1..=model.count(i) {
+                lowered += one_event(&model, &log, i, e);
+            }
+        }
+        tests(&model, &log, &mut random);
+    }
+    assert!(lowered > 1_000, "few starts below the latest: {lowered}");
+}
+
+/// Compares what the reference says of an event; 1 where some start is not the latest checkpoint.
+fn one_event(model: &Model, log: &[u8], i: usize, e: u32) -> usize {
+    let n = model.workers.len();
+    let (worker, event) = (i as u32, e);
+    let mut words = vec![0; n];
+    assert_eq!(reference::vector(log, worker, event, &mut words), 0);
+    let vector: Vec<u32> = (0..n).map(|k| model.component(i, e, k)).collect();
+    assert_eq!(words, vector);
+
+    let mut cut = vec![0; n];
+    cut[i] = e;
+    let mut visits = 0;
+    model.visit(i, e, &mut cut, &mut visits);
+    for (w, &c) in cut.iter().enumerate() {
+        for x in 1..=model.count(w) {
+            let within = (w, x) == (i, e) || model.happened_before((w, x), (i, e));
+            assert_eq!(x <= c, within);
+        }
+    }
+    assert!(model.is_consistent(&cut));
+    let bits = (0..n).filter(|&w| cut[w] > 0).fold(0, |b, w| b | 1u64 << w);
+    let (mut scratch, mut totals) = (vec![0; n * n], [0; 2]);
+    assert_eq!(
+        reference::lower_cut(log, worker, event, &mut words, &mut scratch, &mut totals),
+        0
+    );
+    assert_eq!((&words, totals), (&cut, [visits, bits]));
+
+    assert_eq!(reference::upper_line(log, worker, event, &mut words), 0);
+    for (w, &line) in words.iter().enumerate() {
+        for x in 1..=model.count(w) {
+            assert_eq!(x > line, model.happened_before((i, e), (w, x)));
+        }
+    }
+
+    let choices = model.choices(&cut);
+    let startable: Vec<&Vec<u32>> = choices
+        .iter()
+        .filter(|starts| model.is_startable(&cut, starts))
+        .collect();
+    for starts in &choices {
+        assert_eq!(model.is_startable(&cut, starts), model.works(&cut, starts));
+    }
+    let latest: Vec<u32> = (0..n)
+        .map(|w| startable.iter().map(|starts| starts[w]).max().unwrap())
+        .collect();
+    assert!(startable.contains(&&latest));
+    let expected: Vec<u32> = (0..n)
+        .flat_map(|w| [cut[w], latest[w], model.identifier(w, latest[w])])
+        .collect();
+    let events: u64 = (0..n).map(|w| u64::from(cut[w] - latest[w])).sum();
+    let (mut plan, mut totals) = (vec![0; 3 * n], [0; 4]);
+    assert_eq!(
+        reference::plan(log, worker, event, &mut plan, &mut scratch, &mut totals),
+        0
+    );
+    assert_eq!(plan, expected);
+    assert_eq!(totals, [visits, events, model.units(&cut, &latest), bits]);
+    usize::from(
+        choices
+            .iter()
+            .any(|starts| (0..n).any(|w| starts[w] > latest[w])),
+    )
+}
+
+/// Compares cut tests, covering tests and steps from any state.
+fn tests(model: &Model, log: &[u8], random: &mut Random) {
+    let n = model.workers.len();
+    let mut yes = [9];
+    for _ in 0..20 {
+        let cut: Vec<u32> = (0..n)
+            .map(|w| random.within(0, model.count(w) as usize) as u32)
+            .collect();
+        assert_eq!(reference::cut_test(log, &cut, &mut yes), 0);
+        assert_eq!(yes[0] == 1, model.is_consistent(&cut));
+
+        let starts: Vec<u32> = cut
+            .iter()
+            .map(|&c| random.within(0, c as usize) as u32)
+            .collect();
+        let mut positions: Vec<u32> = (0..n)
+            .map(|w| random.within(starts[w] as usize, cut[w] as usize) as u32)
+            .collect();
+        let plan: Vec<u32> = (0..n).flat_map(|w| [cut[w], starts[w], 7]).collect();
+        for _ in 0..6 {
+            let w = random.below(n);
+            let answer = model.answer(&cut, &starts, &positions, w);
+            let mut after = positions.clone();
+            assert_eq!(reference::step(log, &plan, &mut after, w as u32), answer);
+            positions[w] += u32::from(answer == 0);
+            assert_eq!(after, positions);
+        }
+    }
+    for t in 0..12 {
+        assert_eq!(reference::covers(log, t, &mut yes), 0);
+        assert_eq!(yes[0] == 1, model.covers(t), "identifier {t}");
+    }
+}

@@ -1,0 +1,18 @@
+//! The calls of document 01, written in Rust from its text alone.
+//!
+//! Tests and benchmarks compare the exported functions with these. Each call has the parameters of the exported function of its
+//! name and does the same with every lent word: a refusal returns its number and changes none; on success the words past those
+//! named are untouched. The lent scratch is never written.
+
+#![forbid(unsafe_code)]
+#![deny(missing_docs)]
+
+mod causality;
+mod log;
+mod replay;
+mod restore;
+
+pub use causality::{cut_test, lower_cut, upper_line, vector};
+pub use log::{accept, log_refusal, Checkpoint, Event, Log, Worker};
+pub use replay::{step, steps};
+pub use restore::{covers, plan};

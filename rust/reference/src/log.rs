@@ -1,0 +1,288 @@
+//! The layout of a log and refusals 1 to 13.
+
+/// An event record.
+#[derive(Clone, Copy, Debug, PartialEq, Eq)]
+pub struct Event {
+    /// 1 for a send, 2 for a receive without its data logged, 3 for a receive with its data logged.
+    pub kind: u8,
+    /// The other worker.
+    pub peer: u8,
+    /// The spare bytes.
+    pub spare: u16,
+    /// For a receive, the index of the send.
+    pub send: u32,
+    /// The Lamport clock value.
+    pub stamp: u32,
+}
+
+/// A checkpoint record.
+#[derive(Clone, Copy, Debug, Default, PartialEq, Eq)]
+pub struct Checkpoint {
+    /// The state after this many events.
+    pub index: u32,
+    /// The checkpoint's identifier.
+    pub identifier: u32,
+}
+
+/// A worker of a log: its role and its records where they lie.
+#[derive(Clone, Copy, Debug)]
+pub struct Worker<'a> {
+    /// The role, 0 to 3.
+    pub role: u32,
+    events: &'a [[u8; 12]],
+    checkpoints: &'a [[u8; 8]],
+}
+
+/// A log that has been accepted.
+#[derive(Clone, Debug)]
+pub struct Log<'a> {
+    /// The workers, in order.
+    pub workers: Vec<Worker<'a>>,
+}
+
+fn word(bytes: &[u8], at: usize) -> u32 {
+    u32::from_le_bytes([bytes[at], bytes[at + 1], bytes[at + 2], bytes[at + 3]])
+}
+
+fn half(bytes: &[u8], at: usize) -> u16 {
+    u16::from_le_bytes([bytes[at], bytes[at + 1]])
+}
+
+impl Event {
+    fn of(record: &[u8; 12]) -> Event {
+        Event {
+            kind: record[0],
+            peer: record[1],
+            spare: half(record, 2),
+            send: word(record, 4),
+            stamp: word(record, 8),
+        }
+    }
+
+    /// Whether the event is a receive of an accepted log.
+    pub fn is_receive(&self) -> bool {
+        self.kind != 1
+    }
+
+    /// The peer, as an index.
+    pub fn other(&self) -> usize {
+        usize::from(self.peer)
+    }
+}
+
+impl<'a> Worker<'a> {
+    /// The event count.
+    pub fn count(&self) -> u32 {
+        self.events.len() as u32
+    }
+
+    /// Event `index`, from 1.
+    pub fn event(&self, index: u32) -> Event {
+        Event::of(&self.events[index as usize - 1])
+    }
+
+    /// The events after `first` up to `last`, in order.
+    pub fn events(&self, first: u32, last: u32) -> impl DoubleEndedIterator<Item = Event> + 'a {
+        self.events[first as usize..last as usize]
+            .iter()
+            .map(Event::of)
+    }
+
+    /// The recorded checkpoints, in order.
+    pub fn checkpoints(&self) -> impl ExactSizeIterator<Item = Checkpoint> + 'a {
+        self.checkpoints.iter().map(checkpoint_of)
+    }
+
+    /// The last listed checkpoint with an index of at most `limit`; the initial state if there is none.
+    pub fn latest(&self, limit: u32) -> Checkpoint {
+        let after = self
+            .checkpoints
+            .partition_point(|record| word(record, 0) <= limit);
+        match after.checked_sub(1) {
+            Some(last) => checkpoint_of(&self.checkpoints[last]),
+            None => Checkpoint::default(),
+        }
+    }
+
+    /// The index of the checkpoint with this identifier; 0 is the initial state's.
+    pub fn index_of(&self, identifier: u32) -> Option<u32> {
+        if identifier == 0 {
+            return Some(0);
+        }
+        self.checkpoints
+            .binary_search_by_key(&identifier, |record| word(record, 4))
+            .ok()
+            .map(|at| word(&self.checkpoints[at], 0))
+    }
+}
+
+fn checkpoint_of(record: &[u8; 8]) -> Checkpoint {
+    Checkpoint {
+        index: word(record, 0),
+        identifier: word(record, 4),
+    }
+}
+
+impl Log<'_> {
+    /// The worker count.
+    pub fn size(&self) -> usize {
+        self.workers.len()
+    }
+}
+
+/// The five numbers of a worker's entry.
+struct Entry {
+    events: usize,
+    event_offset: usize,
+    checkpoints: usize,
+    checkpoint_offset: usize,
+    role: u32,
+}
+
+fn entry(log: &[u8], worker: usize) -> Entry {
+    let field = |number: usize| word(log, 8 + 20 * worker + 4 * number);
+    Entry {
+        events: field(0) as usize,
+        event_offset: field(1) as usize,
+        checkpoints: field(2) as usize,
+        checkpoint_offset: field(3) as usize,
+        role: field(4),
+    }
+}
+
+/// Refusals 1 to 6, or the workers with their sections.
+fn layout(log: &[u8]) -> Result<Log<'_>, u32> {
+    if !(8..=4_194_304).contains(&log.len()) {
+        return Err(1);
+    }
+    if half(log, 0) != 1 {
+        return Err(2);
+    }
+    let size = usize::from(half(log, 2));
+    if !(1..=64).contains(&size) {
+        return Err(3);
+    }
+    let header = 8 + 20 * size;
+    if word(log, 4) as usize != log.len() || header > log.len() {
+        return Err(4);
+    }
+    let entries: Vec<Entry> = (0..size).map(|worker| entry(log, worker)).collect();
+    if entries
+        .iter()
+        .any(|e| e.events > 65_535 || e.checkpoints > 1_024 || e.role > 3)
+    {
+        return Err(5);
+    }
+    let section = |offset: usize, bytes: usize| {
+        if offset < header {
+            return Err(6u32);
+        }
+        log.get(offset..offset + bytes).ok_or(6u32)
+    };
+    let workers = entries
+        .iter()
+        .map(|e| {
+            Ok(Worker {
+                role: e.role,
+                events: section(e.event_offset, 12 * e.events)?.as_chunks().0,
+                checkpoints: section(e.checkpoint_offset, 8 * e.checkpoints)?
+                    .as_chunks()
+                    .0,
+            })
+        })
+        .collect::<Result<_, u32>>()?;
+    Ok(Log { workers })
+}
+
+/// The smallest of 7 to 11 that some record of the log has, in one pass; 0 if none.
+fn content(log: &Log) -> u32 {
+    const NONE: u32 = u32::MAX;
+    let size = log.size();
+    let mut lowest = NONE;
+    for (w, worker) in log.workers.iter().enumerate() {
+        let mut previous = 0;
+        for record in worker.events {
+            let event = Event::of(record);
+            let peer = event.other();
+            if event.spare != 0 || peer == w || peer >= size {
+                return 7;
+            }
+            match event.kind {
+                1 => {
+                    if event.send != 0 {
+                        return 7;
+                    }
+                }
+                2 | 3 => {
+                    let sender = &log.workers[peer];
+                    if event.send == 0 || event.send > sender.count() {
+                        return 7;
+                    }
+                    let send = sender.event(event.send);
+                    if send.kind != 1 || usize::from(send.peer) != w {
+                        lowest = lowest.min(9);
+                    } else if event.stamp <= send.stamp {
+                        lowest = lowest.min(10);
+                    }
+                }
+                _ => return 7,
+            }
+            if event.stamp <= previous {
+                lowest = lowest.min(8);
+            }
+            previous = event.stamp;
+        }
+        let mut previous = Checkpoint::default();
+        for checkpoint in worker.checkpoints() {
+            if checkpoint.index > worker.count()
+                || checkpoint.index < previous.index
+                || checkpoint.identifier <= previous.identifier
+            {
+                lowest = lowest.min(11);
+            }
+            previous = checkpoint;
+        }
+    }
+    if lowest == NONE {
+        0
+    } else {
+        lowest
+    }
+}
+
+/// The log, or its refusal of 1 to 11.
+pub fn accept(log: &[u8]) -> Result<Log<'_>, u32> {
+    let accepted = layout(log)?;
+    match content(&accepted) {
+        0 => Ok(accepted),
+        number => Err(number),
+    }
+}
+
+/// 0 for an accepted log, else 1 to 11.
+pub fn log_refusal(log: &[u8]) -> u32 {
+    accept(log).err().unwrap_or(0)
+}
+
+/// The number of a call's result: 0 or its refusal.
+pub(crate) fn number(result: Result<(), u32>) -> u32 {
+    result.err().unwrap_or(0)
+}
+
+/// Refuses by `number` where the condition holds.
+pub(crate) fn refuse_if(condition: bool, number: u32) -> Result<(), u32> {
+    if condition {
+        Err(number)
+    } else {
+        Ok(())
+    }
+}
+
+/// Refusals 1 to 13 of a call that is given a log, a worker and an event, or the log and the worker.
+pub(crate) fn breakpoint(log: &[u8], worker: u32, event: u32) -> Result<(Log<'_>, usize), u32> {
+    let log = accept(log)?;
+    let i = worker as usize;
+    refuse_if(i >= log.size(), 12)?;
+    refuse_if(event == 0 || event > log.workers[i].count(), 13)?;
+    Ok((log, i))
+}

@@ -1,0 +1,107 @@
+//! The replay machine.
+
+use crate::log::{accept, number, refuse_if, Log};
+
+/// The plan words as cuts and starts, with the positions, of one log.
+struct Machine<'a> {
+    log: &'a Log<'a>,
+    plan: &'a [u32],
+    positions: &'a mut [u32],
+}
+
+impl Machine<'_> {
+    fn cut(&self, worker: usize) -> u32 {
+        self.plan[3 * worker]
+    }
+
+    fn start(&self, worker: usize) -> u32 {
+        self.plan[3 * worker + 1]
+    }
+
+    /// 16: whether some worker is without start ≤ position ≤ cut ≤ count.
+    fn is_disordered(&self) -> bool {
+        self.log.workers.iter().enumerate().any(|(w, worker)| {
+            self.start(w) > self.positions[w]
+                || self.positions[w] > self.cut(w)
+                || self.cut(w) > worker.count()
+        })
+    }
+
+    /// One step: 0, 12, 21, 22 or 23.
+    fn step(&mut self, worker: u32) -> u32 {
+        let w = worker as usize;
+        if w >= self.log.size() {
+            return 12;
+        }
+        if self.positions[w] >= self.cut(w) {
+            return 21;
+        }
+        let event = self.log.workers[w].event(self.positions[w] + 1);
+        if event.kind == 2 {
+            let sender = event.other();
+            if event.send > self.positions[sender] {
+                return 22;
+            }
+            if event.send <= self.start(sender) {
+                return 23;
+            }
+        }
+        self.positions[w] += 1;
+        0
+    }
+}
+
+/// One step of a worker.
+pub fn step(log: &[u8], plan: &[u32], positions: &mut [u32], worker: u32) -> u32 {
+    try_step(log, plan, positions, worker).unwrap_or_else(|number| number)
+}
+
+fn try_step(log: &[u8], plan: &[u32], positions: &mut [u32], worker: u32) -> Result<u32, u32> {
+    let log = accept(log)?;
+    let n = log.size();
+    refuse_if(worker as usize >= n, 12)?;
+    refuse_if(plan.len() < 3 * n || positions.len() < n, 14)?;
+    let mut machine = Machine {
+        log: &log,
+        plan,
+        positions,
+    };
+    refuse_if(machine.is_disordered(), 16)?;
+    Ok(machine.step(worker))
+}
+
+/// A step for each number of `workers`: the answers of the steps, and the positions after the last.
+pub fn steps(
+    log: &[u8],
+    plan: &[u32],
+    positions: &mut [u32],
+    workers: &[u32],
+    answers: &mut [u32],
+) -> u32 {
+    number(try_steps(log, plan, positions, workers, answers))
+}
+
+fn try_steps(
+    log: &[u8],
+    plan: &[u32],
+    positions: &mut [u32],
+    workers: &[u32],
+    answers: &mut [u32],
+) -> Result<(), u32> {
+    let log = accept(log)?;
+    let n = log.size();
+    refuse_if(
+        plan.len() < 3 * n || positions.len() < n || answers.len() < workers.len(),
+        14,
+    )?;
+    let mut machine = Machine {
+        log: &log,
+        plan,
+        positions,
+    };
+    refuse_if(machine.is_disordered(), 16)?;
+    for (answer, &worker) in answers.iter_mut().zip(workers) {
+        *answer = machine.step(worker);
+    }
+    Ok(())
+}

@@ -1,0 +1,116 @@
+//! The plan and covering sets.
+
+use crate::causality::{figure2, workers_word};
+use crate::log::{accept, breakpoint, number, refuse_if, Checkpoint, Log};
+
+/// Units by role and by kind: send, receive without data, receive with data.
+const UNITS: [[u64; 3]; 4] = [[2, 3, 5], [2, 4, 6], [3, 8, 9], [2, 5, 7]];
+
+/// The starts of the latest startable choice.
+///
+/// For each worker `needed` is the smallest of its sends that a replayed kind 2 receive names. A start has to lie below it, so a
+/// smaller `needed` opens more events of the worker, whose receives may need earlier sends, until no worker is left to look at.
+fn starts(log: &Log, cut: &[u32]) -> Vec<Checkpoint> {
+    let n = log.size();
+    let mut needed = vec![u32::MAX; n];
+    let mut starts = vec![Checkpoint::default(); n];
+    let mut opened = cut.to_vec();
+    let mut waiting: Vec<usize> = (0..n).collect();
+    let mut is_waiting = vec![true; n];
+    while let Some(w) = waiting.pop() {
+        is_waiting[w] = false;
+        let worker = &log.workers[w];
+        let start = worker.latest(cut[w].min(needed[w] - 1));
+        starts[w] = start;
+        if start.index >= opened[w] {
+            continue;
+        }
+        for event in worker.events(start.index, opened[w]) {
+            let sender = event.other();
+            if event.kind == 2 && event.send < needed[sender] {
+                needed[sender] = event.send;
+                if !is_waiting[sender] {
+                    is_waiting[sender] = true;
+                    waiting.push(sender);
+                }
+            }
+        }
+        opened[w] = start.index;
+    }
+    starts
+}
+
+/// The plan of a breakpoint, to 3 × n words; visits, events, units and workers word, to four totals.
+pub fn plan(
+    log: &[u8],
+    worker: u32,
+    event: u32,
+    words: &mut [u32],
+    scratch: &mut [u32],
+    totals: &mut [u64],
+) -> u32 {
+    number(try_plan(log, worker, event, words, scratch, totals))
+}
+
+fn try_plan(
+    log: &[u8],
+    worker: u32,
+    event: u32,
+    words: &mut [u32],
+    scratch: &mut [u32],
+    totals: &mut [u64],
+) -> Result<(), u32> {
+    let (log, i) = breakpoint(log, worker, event)?;
+    let n = log.size();
+    refuse_if(words.len() < 3 * n || totals.len() < 4, 14)?;
+    refuse_if(scratch.len() < n * n, 15)?;
+    let (cut, visits) = figure2(&log, i, event);
+    let starts = starts(&log, &cut);
+    let mut events = 0;
+    let mut units = 0;
+    for (w, worker) in log.workers.iter().enumerate() {
+        let Checkpoint { index, identifier } = starts[w];
+        words[3 * w] = cut[w];
+        words[3 * w + 1] = index;
+        words[3 * w + 2] = identifier;
+        events += u64::from(cut[w] - index);
+        let table = UNITS[worker.role as usize];
+        units += worker
+            .events(index, cut[w])
+            .map(|event| table[usize::from(event.kind) - 1])
+            .sum::<u64>();
+    }
+    totals[0] = visits;
+    totals[1] = events;
+    totals[2] = units;
+    totals[3] = workers_word(&cut);
+    Ok(())
+}
+
+/// 1 or 0 to the first word of `yes`: whether the identifier covers.
+pub fn covers(log: &[u8], identifier: u32, yes: &mut [u32]) -> u32 {
+    number(try_covers(log, identifier, yes))
+}
+
+fn try_covers(log: &[u8], identifier: u32, yes: &mut [u32]) -> Result<(), u32> {
+    let log = accept(log)?;
+    refuse_if(yes.is_empty(), 14)?;
+    yes[0] = u32::from(is_covering(&log, identifier));
+    Ok(())
+}
+
+fn is_covering(log: &Log, identifier: u32) -> bool {
+    let set: Option<Vec<u32>> = log
+        .workers
+        .iter()
+        .map(|worker| worker.index_of(identifier))
+        .collect();
+    let Some(set) = set else {
+        return false;
+    };
+    log.workers.iter().zip(&set).all(|(worker, &index)| {
+        worker
+            .events(index, worker.count())
+            .all(|event| event.kind != 2 || event.send >= set[event.other()])
+    })
+}

@@ -1,0 +1,256 @@
+//! The exported functions of the static library, on numbers and slices.
+//!
+//! Each function lends its slices to the exported function of the same name and returns that function's number: 0, or the number
+//! of the refusal (see [`Refusal`](crate::Refusal)). The exported functions have no precondition, so any numbers and any slices are
+//! good. A refusal changes no lent word. On success the words past those named are untouched; scratch alone is free.
+//!
+//! This module has the declarations and all `unsafe` code of the crate. Nothing checks the declarations against the library, so
+//! they are kept beside each other: a slice is a pointer and then a length.
+
+#![allow(unsafe_code)]
+
+mod exported {
+    extern "C" {
+        pub fn log_refusal(log: *const u8, log_length: usize) -> u32;
+
+        pub fn vector(
+            log: *const u8,
+            log_length: usize,
+            worker: u32,
+            event: u32,
+            words: *mut u32,
+            words_length: usize,
+        ) -> u32;
+
+        pub fn step(
+            log: *const u8,
+            log_length: usize,
+            plan: *const u32,
+            plan_length: usize,
+            positions: *mut u32,
+            positions_length: usize,
+            worker: u32,
+        ) -> u32;
+    }
+
+    extern "C" {
+        pub fn lower_cut(
+            log: *const u8,
+            log_length: usize,
+            worker: u32,
+            event: u32,
+            words: *mut u32,
+            words_length: usize,
+            scratch: *mut u32,
+            scratch_length: usize,
+            totals: *mut u64,
+            totals_length: usize,
+        ) -> u32;
+
+        pub fn upper_line(
+            log: *const u8,
+            log_length: usize,
+            worker: u32,
+            event: u32,
+            words: *mut u32,
+            words_length: usize,
+        ) -> u32;
+
+        pub fn cut_test(
+            log: *const u8,
+            log_length: usize,
+            words: *const u32,
+            words_length: usize,
+            yes: *mut u32,
+            yes_length: usize,
+        ) -> u32;
+
+        pub fn covers(
+            log: *const u8,
+            log_length: usize,
+            identifier: u32,
+            yes: *mut u32,
+            yes_length: usize,
+        ) -> u32;
+
+        pub fn plan(
+            log: *const u8,
+            log_length: usize,
+            worker: u32,
+            event: u32,
+            words: *mut u32,
+            words_length: usize,
+            scratch: *mut u32,
+            scratch_length: usize,
+            totals: *mut u64,
+            totals_length: usize,
+        ) -> u32;
+
+        pub fn steps(
+            log: *const u8,
+            log_length: usize,
+            plan: *const u32,
+            plan_length: usize,
+            positions: *mut u32,
+            positions_length: usize,
+            workers: *const u32,
+            workers_length: usize,
+            answers: *mut u32,
+            answers_length: usize,
+        ) -> u32;
+    }
+}
+
+// SAFETY, for each call below: the pointers and lengths are those of slices that are borrowed for the whole call, the mutable ones
+// alone, and the exported function reads and writes within them and keeps none.
+
+/// 0 for an accepted log, else 1 to 11.
+pub fn log_refusal(log: &[u8]) -> u32 {
+    unsafe { exported::log_refusal(log.as_ptr(), log.len()) }
+}
+
+/// Writes the dependency vector of an event to n words.
+pub fn vector(log: &[u8], worker: u32, event: u32, words: &mut [u32]) -> u32 {
+    unsafe {
+        exported::vector(
+            log.as_ptr(),
+            log.len(),
+            worker,
+            event,
+            words.as_mut_ptr(),
+            words.len(),
+        )
+    }
+}
+
+/// Writes the lower cut of a breakpoint to n words, and the visits and the workers word to two totals. Scratch is n × n words.
+pub fn lower_cut(
+    log: &[u8],
+    worker: u32,
+    event: u32,
+    words: &mut [u32],
+    scratch: &mut [u32],
+    totals: &mut [u64],
+) -> u32 {
+    unsafe {
+        exported::lower_cut(
+            log.as_ptr(),
+            log.len(),
+            worker,
+            event,
+            words.as_mut_ptr(),
+            words.len(),
+            scratch.as_mut_ptr(),
+            scratch.len(),
+            totals.as_mut_ptr(),
+            totals.len(),
+        )
+    }
+}
+
+/// Writes the upper line of a breakpoint to n words.
+pub fn upper_line(log: &[u8], worker: u32, event: u32, words: &mut [u32]) -> u32 {
+    unsafe {
+        exported::upper_line(
+            log.as_ptr(),
+            log.len(),
+            worker,
+            event,
+            words.as_mut_ptr(),
+            words.len(),
+        )
+    }
+}
+
+/// Writes 1 to the first word of `yes` where the first n words are a consistent cut, else 0.
+pub fn cut_test(log: &[u8], words: &[u32], yes: &mut [u32]) -> u32 {
+    unsafe {
+        exported::cut_test(
+            log.as_ptr(),
+            log.len(),
+            words.as_ptr(),
+            words.len(),
+            yes.as_mut_ptr(),
+            yes.len(),
+        )
+    }
+}
+
+/// Writes 1 to the first word of `yes` where the identifier covers, else 0.
+pub fn covers(log: &[u8], identifier: u32, yes: &mut [u32]) -> u32 {
+    unsafe {
+        exported::covers(
+            log.as_ptr(),
+            log.len(),
+            identifier,
+            yes.as_mut_ptr(),
+            yes.len(),
+        )
+    }
+}
+
+/// Writes the plan of a breakpoint to 3 × n words (cut, start, identifier of each worker), and the visits, events, units and the
+/// workers word to four totals. Scratch is n × n words.
+pub fn plan(
+    log: &[u8],
+    worker: u32,
+    event: u32,
+    words: &mut [u32],
+    scratch: &mut [u32],
+    totals: &mut [u64],
+) -> u32 {
+    unsafe {
+        exported::plan(
+            log.as_ptr(),
+            log.len(),
+            worker,
+            event,
+            words.as_mut_ptr(),
+            words.len(),
+            scratch.as_mut_ptr(),
+            scratch.len(),
+            totals.as_mut_ptr(),
+            totals.len(),
+        )
+    }
+}
+
+/// One step of a worker: 0 with its position one higher, or a refusal.
+pub fn step(log: &[u8], plan: &[u32], positions: &mut [u32], worker: u32) -> u32 {
+    unsafe {
+        exported::step(
+            log.as_ptr(),
+            log.len(),
+            plan.as_ptr(),
+            plan.len(),
+            positions.as_mut_ptr(),
+            positions.len(),
+            worker,
+        )
+    }
+}
+
+/// One step for each number of `workers`, in order. The log and the plan words are tested once; then word j of `answers` is the
+/// answer of step j, and the positions are those after the last step.
+pub fn steps(
+    log: &[u8],
+    plan: &[u32],
+    positions: &mut [u32],
+    workers: &[u32],
+    answers: &mut [u32],
+) -> u32 {
+    unsafe {
+        exported::steps(
+            log.as_ptr(),
+            log.len(),
+            plan.as_ptr(),
+            plan.len(),
+            positions.as_mut_ptr(),
+            positions.len(),
+            workers.as_ptr(),
+            workers.len(),
+            answers.as_mut_ptr(),
+            answers.len(),
+        )
+    }
+}
