@@ -38,7 +38,7 @@ fn print_line(number: u32, n: usize, words: &[u32])
     super::words::print(b"\n");
 }
 
-pub fn run_vector(log: &[u8], worker: u32, event: u32, n: usize, lent: usize)
+pub(crate) fn run_vector(log: &[u8], worker: u32, event: u32, n: usize, lent: usize)
     requires { ⌜ (n ≤ 64) × (lent ≤ 72) ⌝ }
 {
     let mut words = [0u32; 72];
@@ -48,7 +48,7 @@ pub fn run_vector(log: &[u8], worker: u32, event: u32, n: usize, lent: usize)
     print_line(number, n, &words);
 }
 
-pub fn run_upper(log: &[u8], worker: u32, event: u32, n: usize, lent: usize)
+pub(crate) fn run_upper(log: &[u8], worker: u32, event: u32, n: usize, lent: usize)
     requires { ⌜ (n ≤ 64) × (lent ≤ 72) ⌝ }
 {
     let mut words = [0u32; 72];
@@ -67,7 +67,7 @@ fn print_cut(cut: causality::Cut, scratch: &[u32]) {
     }
 }
 
-pub fn run_lower(log: &[u8], worker: u32, event: u32, n: usize, lent: usize, room: usize)
+pub(crate) fn run_lower(log: &[u8], worker: u32, event: u32, n: usize, lent: usize, room: usize)
     requires { ⌜ (n ≤ 64) × (lent ≤ 72) × (room ≤ 4104) ⌝ }
 {
     let mut words = [0u32; 72];

@@ -44,7 +44,7 @@ fn run_each(log: &[u8], n: usize, words: &mut [u32])
     super::words::print(b"\n");
 }
 
-pub fn run_tests(log: &[u8], worker: u32, event: u32, n: usize, short: usize)
+pub(crate) fn run_tests(log: &[u8], worker: u32, event: u32, n: usize, short: usize)
     requires { ⌜ (n ≤ 64) × (short ≤ n) ⌝ }
 {
     let mut words = [0u32; 72];

@@ -4,7 +4,7 @@ ghost use Prim.Native.Nat.{_*_, _<_, _≤_};
 ghost use lib.ListN.{length};
 
 // A step of worker w: its answer, and the position of w after it.
-pub fn print_step(log: &[u8], plan: &[u32], positions: &mut [u32], w: usize)
+pub(crate) fn print_step(log: &[u8], plan: &[u32], positions: &mut [u32], w: usize)
     requires { ⌜ (w < 64) × (64 ≤ length (now positions)) ⌝ }
 {
     let number = replay::step(log, plan, positions, w as u32);
@@ -63,7 +63,7 @@ fn run_changed(log: &[u8], worker: u32, event: u32, n: usize, by: u32, w: usize)
 }
 
 // Steps of the first worker and of the last one; a word is raised by 1 or by 65,536, or lowered by 1.
-pub fn run_changes(log: &[u8], worker: u32, event: u32, n: usize)
+pub(crate) fn run_changes(log: &[u8], worker: u32, event: u32, n: usize)
     requires { ⌜ n ≤ 64 ⌝ }
 {
     let last = super::words::one_less(n);

@@ -55,7 +55,7 @@ fn run_list(log: &[u8], worker: u32, event: u32, n: usize, pattern: u32)
     super::words::print(b"\n");
 }
 
-pub fn run_lists(log: &[u8], worker: u32, event: u32, n: usize)
+pub(crate) fn run_lists(log: &[u8], worker: u32, event: u32, n: usize)
     requires { ⌜ n ≤ 64 ⌝ }
 {
     run_list(log, worker, event, n, 0);

@@ -47,7 +47,7 @@ fn run_workers(log: &[u8], worker: u32, event: u32, n: usize)
     }
 }
 
-pub fn run_lost(log: &[u8], worker: u32, event: u32, n: usize)
+pub(crate) fn run_lost(log: &[u8], worker: u32, event: u32, n: usize)
     requires { ⌜ n ≤ 64 ⌝ }
 {
     super::words::print(b"others at their cuts");

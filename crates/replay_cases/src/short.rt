@@ -25,7 +25,7 @@ fn run_lent(log: &[u8], worker: u32, event: u32, n: usize, lent: usize, room: us
     super::words::print(b"\n");
 }
 
-pub fn run_short(log: &[u8], worker: u32, event: u32, n: usize)
+pub(crate) fn run_short(log: &[u8], worker: u32, event: u32, n: usize)
     requires { ⌜ n ≤ 64 ⌝ }
 {
     let all = 3 * n;

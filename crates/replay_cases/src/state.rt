@@ -5,7 +5,7 @@ ghost use Prim.Native.Nat.{_*_, _≤_};
 ghost use lib.ListN.{length};
 
 // Sets the positions of n workers to the starts in the plan words.
-pub fn set_starts(n: usize, plan: &[u32], positions: &mut [u32])
+pub(crate) fn set_starts(n: usize, plan: &[u32], positions: &mut [u32])
     requires { ⌜ (n ≤ 64) × (3 * n ≤ length (now plan)) × (n ≤ length (now positions)) ⌝ }
 {
     let mut w: usize = 0;
@@ -16,7 +16,7 @@ pub fn set_starts(n: usize, plan: &[u32], positions: &mut [u32])
 }
 
 // Makes the plan and sets the positions. Words past them hold fillers; all of them do where the plan is refused.
-pub fn begin(
+pub(crate) fn begin(
     log: &[u8],
     worker: u32,
     event: u32,
@@ -35,7 +35,7 @@ pub fn begin(
 }
 
 // Prints the plan words of n workers.
-pub fn run_plan(log: &[u8], worker: u32, event: u32, n: usize)
+pub(crate) fn run_plan(log: &[u8], worker: u32, event: u32, n: usize)
     requires { ⌜ n ≤ 64 ⌝ }
 {
     let mut plan = [0u32; 200];

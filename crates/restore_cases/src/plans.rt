@@ -38,7 +38,7 @@ fn print_line(number: u32, all: usize, words: &[u32])
 }
 
 // The plan is all words, 3 for each worker.
-pub fn run_plan(log: &[u8], worker: u32, event: u32, all: usize, lent: usize, room: usize)
+pub(crate) fn run_plan(log: &[u8], worker: u32, event: u32, all: usize, lent: usize, room: usize)
     requires { ⌜ (all ≤ 192) × (lent ≤ 200) × (room ≤ 4104) ⌝ }
 {
     let mut words = [0u32; 200];

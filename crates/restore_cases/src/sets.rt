@@ -11,7 +11,7 @@ fn print_covers(log: &[u8], identifier: u32) {
     super::words::print(b" no\n");
 }
 
-pub fn run_sets(log: &[u8]) {
+pub(crate) fn run_sets(log: &[u8]) {
     print_covers(log, 0);
     print_covers(log, 1);
     print_covers(log, 2);
