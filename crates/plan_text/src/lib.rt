@@ -1,41 +1,50 @@
 // What the program `plan` prints: the plan of an input, as text in a lent buffer.
 
 ghost use mathlib.Core.Path.{_≡_};
+ghost use mathlib.Core.List.{[], _∷_, _++_};
 ghost use Prim.Native.Nat.{_+_, _*_, _<_, _≤_};
 ghost use lib.ListN.{length};
+ghost use Rattle.log.specs.Layout.{logOf};
+ghost use Rattle.log.specs.Model.{size};
 ghost use Rattle.accept.specs.Refusal.{refusal};
+ghost use Rattle.causality.specs.Figure2.{lowerCut};
+ghost use Rattle.causality.specs.Lent.{breakpointRefusal};
+ghost use Rattle.causality.specs.Upper.{upperLine};
+ghost use Rattle.restore.specs.Plan.{planWords};
+ghost use Rattle.planner.specs.Calls.{planTotals};
+ghost use Rattle.plan_text.specs.Text.{named, ended, refusedText, breakpointLine, fourNamed, wordsOf, processLine, processLines, totalsLine, foundText, planText, textOf};
+ghost use Rattle.plan_text.specs.Buffer.{Holds, Adds};
 
 // The longest input, in bytes.
 const MAX_INPUT: usize = 65536;
 
-fn copy(from: &[u8], to: &mut [u8])
-    requires { ⌜ length (now to) ≡ length (now from) ⌝ }
-    ensures { λ _. ⌜ now (to .exit) ≡ now (from .entry) ⌝ }
+// Puts a byte at a place of the text, where there is room for it, and gives the place after it.
+fn put_byte(out: &mut [u8], at: usize, byte: u8) -> usize
+    ensures { λ r. ⌜ Adds (now (out .entry)) at (now (out .exit)) r (λ text. text ++ (byte ∷ [])) ⌝ }
 {
-    let mut k: usize = 0;
-    while k < to.len() {
-        to[k] = from[k];
-        k += 1;
-    }
-}
-
-// Puts bytes at a place of the text, where there is room for all of them, and gives the place after them.
-fn put(out: &mut [u8], at: usize, bytes: &[u8]) -> usize
-    requires { ⌜ at ≤ length (now out) ⌝ }
-    ensures { λ r. ⌜ r ≤ length (now (out .exit)) ⌝ }
-{
-    if out.len() - at < bytes.len() {
+    if out.len() <= at {
         return at;
     }
-    let next = at + bytes.len();
-    copy(bytes, &mut out[at..next]);
+    out[at] = byte;
+    at + 1
+}
+
+// Puts bytes, as many as there is room for.
+fn put(out: &mut [u8], at: usize, bytes: &[u8]) -> usize
+    ensures { λ r. ⌜ Adds (now (out .entry)) at (now (out .exit)) r (λ text. text ++ now (bytes .entry)) ⌝ }
+{
+    let mut next = at;
+    let mut k: usize = 0;
+    while k < bytes.len() {
+        next = put_byte(out, next, bytes[k]);
+        k += 1;
+    }
     next
 }
 
 // Puts a name and a number in decimal.
 fn put_number(out: &mut [u8], at: usize, name: &[u8], number: u64) -> usize
-    requires { ⌜ at ≤ length (now out) ⌝ }
-    ensures { λ r. ⌜ r ≤ length (now (out .exit)) ⌝ }
+    ensures { λ r. ⌜ Adds (now (out .entry)) at (now (out .exit)) r (λ text. named text (now (name .entry)) number) ⌝ }
 {
     let next = put(out, at, name);
     let mut digits = [0u8; 20];
@@ -45,38 +54,72 @@ fn put_number(out: &mut [u8], at: usize, name: &[u8], number: u64) -> usize
 
 // Puts a name and a 32-bit number.
 fn put_word(out: &mut [u8], at: usize, name: &[u8], number: u32) -> usize
-    requires { ⌜ at ≤ length (now out) ⌝ }
-    ensures { λ r. ⌜ r ≤ length (now (out .exit)) ⌝ }
+    ensures { λ r. ⌜ Adds (now (out .entry)) at (now (out .exit)) r (λ text. named text (now (name .entry)) number) ⌝ }
 {
     put_number(out, at, name, number as u64)
 }
 
+// Puts the end of a line.
+fn put_end(out: &mut [u8], at: usize) -> usize
+    ensures { λ r. ⌜ Adds (now (out .entry)) at (now (out .exit)) r ended ⌝ }
+{
+    put(out, at, b"\n")
+}
+
 fn put_refused(out: &mut [u8], number: u32) -> usize
-    ensures { λ r. ⌜ r ≤ length (now (out .exit)) ⌝ }
+    ensures { λ r. ⌜ Holds (now (out .entry)) (refusedText number) (now (out .exit)) r ⌝ }
 {
     let next = put_word(out, 0, b"refused ", number);
-    put(out, next, b"\n")
+    put_end(out, next)
 }
 
 // The first line.
 fn put_breakpoint(out: &mut [u8], worker: u32, event: u32) -> usize
-    ensures { λ r. ⌜ r ≤ length (now (out .exit)) ⌝ }
+    ensures { λ r. ⌜ Holds (now (out .entry)) (breakpointLine worker event) (now (out .exit)) r ⌝ }
 {
     let a = put_word(out, 0, b"breakpoint ", worker);
     let b = put_word(out, a, b" ", event);
-    put(out, b, b"\n")
+    put_end(out, b)
 }
 
-// The numbers of a worker's line that the plan gives.
-fn put_words(out: &mut [u8], at: usize, cut: u32, upper: u32, start: u32, identifier: u32) -> usize
-    requires { ⌜ at ≤ length (now out) ⌝ }
-    ensures { λ r. ⌜ r ≤ length (now (out .exit)) ⌝ }
+// Puts four names, each with its number, and the end of the line.
+fn put_four(
+    out: &mut [u8],
+    at: usize,
+    first: &[u8],
+    a: u64,
+    second: &[u8],
+    b: u64,
+    third: &[u8],
+    c: u64,
+    fourth: &[u8],
+    d: u64,
+) -> usize
+    ensures { λ r. ⌜ Adds (now (out .entry)) at (now (out .exit)) r (λ text. fourNamed text (now (first .entry)) a (now (second .entry)) b (now (third .entry)) c (now (fourth .entry)) d) ⌝ }
 {
-    let a = put_word(out, at, b" cut ", cut);
-    let b = put_word(out, a, b" upper ", upper);
-    let c = put_word(out, b, b" start ", start);
-    let d = put_word(out, c, b" checkpoint ", identifier);
-    put(out, d, b"\n")
+    let one = put_number(out, at, first, a);
+    let two = put_number(out, one, second, b);
+    let three = put_number(out, two, third, c);
+    let four = put_number(out, three, fourth, d);
+    put_end(out, four)
+}
+
+// The numbers of a worker's line that the upper line and the plan give.
+fn put_words(out: &mut [u8], at: usize, cut: u32, upper: u32, start: u32, identifier: u32) -> usize
+    ensures { λ r. ⌜ Adds (now (out .entry)) at (now (out .exit)) r (λ text. wordsOf text cut upper start identifier) ⌝ }
+{
+    put_four(
+        out,
+        at,
+        b" cut ",
+        cut as u64,
+        b" upper ",
+        upper as u64,
+        b" start ",
+        start as u64,
+        b" checkpoint ",
+        identifier as u64,
+    )
 }
 
 // The line of worker w.
@@ -88,8 +131,8 @@ fn put_process(
     words: &[u32],
     upper: &[u32],
 ) -> usize
-    requires { ⌜ (at ≤ length (now out)) × (3 * w + 3 ≤ length (now words)) × (w < length (now upper)) ⌝ }
-    ensures { λ r. ⌜ r ≤ length (now (out .exit)) ⌝ }
+    requires { ⌜ (3 * w + 3 ≤ length (now words)) × (w < length (now upper)) ⌝ }
+    ensures { λ r. ⌜ Adds (now (out .entry)) at (now (out .exit)) r (λ text. processLine text role (now (words .entry)) (now (upper .entry)) w) ⌝ }
 {
     let cut = words[3 * w];
     let start = words[3 * w + 1];
@@ -102,8 +145,8 @@ fn put_process(
 
 // The lines of all workers.
 fn put_processes(out: &mut [u8], at: usize, log: &[u8], words: &[u32], upper: &[u32]) -> usize
-    requires { ⌜ (at ≤ length (now out)) × (refusal (now log) ≡ 0) × (192 ≤ length (now words)) × (64 ≤ length (now upper)) ⌝ }
-    ensures { λ r. ⌜ r ≤ length (now (out .exit)) ⌝ }
+    requires { ⌜ (refusal (now log) ≡ 0) × (length (now words) ≡ 3 * size (logOf (now log))) × (length (now upper) ≡ size (logOf (now log))) ⌝ }
+    ensures { λ r. ⌜ Adds (now (out .entry)) at (now (out .exit)) r (λ text. processLines text (logOf (now (log .entry))) (now (words .entry)) (now (upper .entry)) (size (logOf (now (log .entry))))) ⌝ }
 {
     let n = log::size_of(log);
     let mut next = at;
@@ -124,19 +167,43 @@ fn put_totals(
     units: u64,
     workers: u64,
 ) -> usize
-    requires { ⌜ at ≤ length (now out) ⌝ }
-    ensures { λ r. ⌜ r ≤ length (now (out .exit)) ⌝ }
+    ensures { λ r. ⌜ Adds (now (out .entry)) at (now (out .exit)) r (λ text. totalsLine text visits events units workers) ⌝ }
 {
-    let a = put_number(out, at, b"visits ", visits);
-    let b = put_number(out, a, b" events ", events);
-    let c = put_number(out, b, b" units ", units);
-    let d = put_number(out, c, b" workers ", workers);
-    put(out, d, b"\n")
+    put_four(
+        out,
+        at,
+        b"visits ",
+        visits,
+        b" events ",
+        events,
+        b" units ",
+        units,
+        b" workers ",
+        workers,
+    )
 }
 
-// The text of a breakpoint event of a log.
+// The text of a plan: its words, the upper line and its totals.
+fn put_found(
+    out: &mut [u8],
+    log: &[u8],
+    worker: u32,
+    event: u32,
+    words: &[u32],
+    upper: &[u32],
+    totals: &[u64],
+) -> usize
+    requires { ⌜ (breakpointRefusal (now log) worker event ≡ 0) × (now words ≡ planWords (logOf (now log)) (lowerCut (logOf (now log)) worker event)) × (now upper ≡ upperLine (logOf (now log)) worker event) × (now totals ≡ planTotals (now log) worker event) ⌝ }
+    ensures { λ r. ⌜ Holds (now (out .entry)) (foundText (logOf (now (log .entry))) worker event) (now (out .exit)) r ⌝ }
+{
+    let a = put_breakpoint(out, worker, event);
+    let b = put_processes(out, a, log, words, upper);
+    put_totals(out, b, totals[0], totals[1], totals[2], totals[3])
+}
+
+// The text for a log, a worker and an event.
 fn put_plan(out: &mut [u8], log: &[u8], worker: u32, event: u32) -> usize
-    ensures { λ r. ⌜ r ≤ length (now (out .exit)) ⌝ }
+    ensures { λ r. ⌜ Holds (now (out .entry)) (planText (now (log .entry)) worker event) (now (out .exit)) r ⌝ }
 {
     let mut words: [u32; 192] = [0; 192];
     let mut scratch: [u32; 4096] = [0; 4096];
@@ -147,14 +214,22 @@ fn put_plan(out: &mut [u8], log: &[u8], worker: u32, event: u32) -> usize
     }
     let mut upper: [u32; 64] = [0; 64];
     planner::upper_line(log, worker, event, &mut upper);
-    let a = put_breakpoint(out, worker, event);
-    let b = put_processes(out, a, log, &words, &upper);
-    put_totals(out, b, totals[0], totals[1], totals[2], totals[3])
+    let n = log::size_of(log);
+    put_found(
+        out,
+        log,
+        worker,
+        event,
+        &words[..3 * n],
+        &upper[..n],
+        &totals,
+    )
 }
 
-// The text of an input: worker and event, 32 bits each, then the log. Gives the number of bytes put at the start of `out`.
+// The text of an input: worker and event, 32 bits each, then the log. It is put at the start of `out`, as much as there is room for;
+// gives the number of bytes put.
 pub fn write_text(input: &[u8], out: &mut [u8]) -> usize
-    ensures { λ r. ⌜ r ≤ length (now (out .exit)) ⌝ }
+    ensures { λ r. ⌜ Holds (now (out .entry)) (textOf (now (input .entry))) (now (out .exit)) r ⌝ }
 {
     if input.len() < 8 {
         return put_refused(out, 1);

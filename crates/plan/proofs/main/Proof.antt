@@ -1,7 +1,9 @@
 -- `plan::main` meets its contract. Assumes nothing.
 use mathlib.Core.Path.{sym}
+use native.Mathlib.Omega.{arith}
 use lib.Seq.{length-take-le}
 use borrow.Author.Needs.{needs}
+use Rattle.plan_text.proofs.Buffer.{holds-within}
 use Rattle.plan.proofs.main.Statement.{statement}
 use Rattle.plan.proofs.main.Tie as tie
 
@@ -27,10 +29,10 @@ write-text-requires : tie.Need-write-text-requires
 write-text-requires c κs = search needs
 
 array-share-prefix-text : tie.Need-array-share-prefix-text
-array-share-prefix-text c = search needs
+array-share-prefix-text c = omega (arith, holds-within _ _ _ _ (c .before .write-text .ensures) .0, c .before .before .before .before .large-buffer .ensures)
 
 slice-aggregate-write-all : tie.Need-slice-aggregate-write-all
-slice-aggregate-write-all c = sym (length-take-le _ _ (c .before .before .write-text .ensures))
+slice-aggregate-write-all c = sym (length-take-le _ _ (holds-within _ _ _ _ (c .before .before .write-text .ensures) .1))
 
 write-all-requires : tie.Need-write-all-requires
 write-all-requires c κs = search needs

@@ -1,0 +1,5 @@
+pub mod Buffer
+pub mod Decimal
+pub mod Lines
+pub mod Enough
+pub mod Whole
