@@ -29,7 +29,7 @@ unfolding component
 component-own log i e = rw (eq-eqb i i refl)
 
 -- the component of another worker is the largest event that a receive names
-component-other : (log : Log) (i e v : ℕ) → v ≢ i → component log i e v ≡ maxBelow (namedOf log i v) e
+pub component-other : (log : Log) (i e v : ℕ) → v ≢ i → component log i e v ≡ maxBelow (namedOf log i v) e
 unfolding component
 component-other log i e v other = rw (ne-eqb v i other)
 
@@ -37,7 +37,8 @@ named-send : (log : Log) (i k : ℕ) → isReceive (eventOf log i (k + 1)) ≡ t
 unfolding namedOf
 named-send log i k r = rw (r, eq-eqb (eventOf log i (k + 1) .peer) (eventOf log i (k + 1) .peer) refl)
 
-named-from : (log : Log) (i e v k : ℕ) → k < e → 0 < namedOf log i v k → NamedBy log i e v (namedOf log i v k) k
+-- an event that names something of a worker is a receive from it
+pub named-from : (log : Log) (i e v k : ℕ) → k < e → 0 < namedOf log i v k → NamedBy log i e v (namedOf log i v k) k
 unfolding namedOf
 named-from log i e v k below h = go (isReceive (eventOf log i (k + 1))) refl (eqb (eventOf log i (k + 1) .peer) v) refl h
   where

@@ -9,5 +9,4 @@ pub mod WorkersWord
 pub mod Lent
 pub mod Row
 pub mod Rounds
-pub mod Scan
 pub mod Turns

@@ -1,19 +1,17 @@
--- A pass over the first events of a worker that notes what its receives name, and the dependency vector that it ends in.
+-- A pass over a worker's events after the first `from` that notes what its receives name, and the components that it gives.
 -- Assumes nothing.
-use mathlib.Core.Path.{_≡_, refl, sym, _∙_, ap}
-use mathlib.Core.Bool.{Bool, true, false, cond, _&&_}
-use mathlib.Core.Logic.{⊎-elim}
-use mathlib.Core.List.{List}
-use Prim.Native.Nat.{ℕ, zero, _+_, _<_, _≤_, max}
-use native.Mathlib.Numerals.{add-one}
+use mathlib.Core.Path.{_≡_, refl, sym, _∙_}
+use mathlib.Core.Bool.{Bool, true, false, cond}
+use mathlib.Core.Logic.{⊎-elim, _≢_}
+use mathlib.Core.List.{List, _++_}
+use Prim.Native.Nat.{ℕ, _+_, _<_, _≤_, max}
 use native.Mathlib.Omega.{arith}
-use borrow.Author.Tests.{eq-eqb, ne-eqb}
-use lib.Dec.{eqb}
-use lib.ListN.{length, getD, set, replicate, length-set, length-replicate, getD-replicate}
+use borrow.Author.Tests.{le-leb, lt-leb, eq-eqb, ne-eqb}
+use lib.ListN.{length, set, replicate, length-set, length-replicate, getD-replicate, List·getD-append}
 use lib.Seq.{getD-set-same, getD-set-other}
-use Rattle.ranges.specs.Fold.{maxBelow, tabulate}
-use Rattle.ranges.proofs.Max.{max-none, max-more}
-use Rattle.ranges.proofs.Order.{eq-or-ne}
+use Rattle.ranges.specs.Fold.{maxBelow}
+use Rattle.ranges.proofs.Max.{max-more, max-each, max-least, max-same}
+use Rattle.ranges.proofs.Order.{lt-or-le, eq-or-ne}
 use Rattle.ranges.proofs.Tabulate.{length-tabulate, getD-tabulate, tabulate-list}
 use Rattle.log.specs.declared.Event.{Event}
 use Rattle.log.specs.Layout.{logOf}
@@ -21,76 +19,113 @@ use Rattle.log.specs.Model.{Log, size, eventOf, isReceive}
 use Rattle.accept.specs.Refusal.{refusal}
 use Rattle.accept.proofs.Accepted.{well-formed}
 use Rattle.causality.specs.Cut.{at, namedOf, component, vector}
-use Rattle.causality.specs.Row.{largest, namedRow, noted}
+use Rattle.causality.specs.Row.{namedAfter, largestAfter, namedRow, noted}
+use Rattle.causality.proofs.Components.{component-own, component-other}
 
 -- the peer of a receive that was read is a worker of the log
 pub peer-within : (s : List ℕ) → refusal s ≡ 0 → (w x : ℕ) (e : Event) → e ≡ eventOf (logOf s) w x → isReceive e ≡ true → e .peer < size (logOf s)
 peer-within s accepted w x e q r = rw q (well-formed s accepted .sent w x (rw q at r) .within)
 
-module _ (log : Log) (i : ℕ) where
-  pub row-none : replicate (size log) 0 ≡ namedRow log i 0
-  unfolding namedRow largest
+noted-length : (e : Event) (words : List ℕ) → length (noted e words) ≡ length words
+unfolding noted
+noted-length e words = go (isReceive e)
+  where
+    go : (b : Bool) → length (cond b (set words (e .peer) (max (at words (e .peer)) (e .send))) words) ≡ length words
+    go true = simp length-set
+    go false = refl
+
+module _ (log : Log) (i from : ℕ) where
+  after-none : (v : ℕ) → largestAfter log i from from v ≡ 0
+  unfolding largestAfter namedAfter
+  after-none v =
+      let zero′ : maxBelow (namedAfter log i from v) from ≤ 0 = max-least (namedAfter log i from v) from 0 (λ k h. rw (lt-leb from k h) (omega arith)) in
+      omega arith
+
+  after-more : (k v : ℕ) → from ≤ k → largestAfter log i from (k + 1) v ≡ max (largestAfter log i from k v) (namedOf log i v k)
+  unfolding largestAfter namedAfter
+  after-more k v low = max-more (namedAfter log i from v) k ∙ rw (le-leb from k low)
+
+  pub row-none : replicate (size log) 0 ≡ namedRow log i from from
+  unfolding namedRow
   row-none =
-      tabulate-list (largest log i 0) (size log) 0 (replicate (size log) 0) (length-replicate (size log) 0)
-      (λ v h. getD-replicate (size log) v 0 0 h ∙ sym (max-none (namedOf log i v)))
+      tabulate-list (largestAfter log i from from) (size log) 0 (replicate (size log) 0) (length-replicate (size log) 0)
+      (λ v h. getD-replicate (size log) v 0 0 h ∙ sym (after-none v))
 
-  pub row-length : (k : ℕ) → length (namedRow log i k) ≡ size log
+  pub row-length : (k : ℕ) → length (namedRow log i from k) ≡ size log
   unfolding namedRow
-  row-length k = length-tabulate (largest log i k) (size log)
+  row-length k = length-tabulate (largestAfter log i from k) (size log)
 
-  row-at : (k v : ℕ) → v < size log → at (namedRow log i k) v ≡ largest log i k v
+  row-at : (k v : ℕ) → v < size log → at (namedRow log i from k) v ≡ largestAfter log i from k v
   unfolding namedRow
-  row-at k v h = getD-tabulate (largest log i k) (size log) v 0 h
+  row-at k v h = getD-tabulate (largestAfter log i from k) (size log) v 0 h
 
-  more-at : (k v : ℕ) → largest log i (k + 1) v ≡ max (largest log i k v) (namedOf log i v k)
-  unfolding largest
-  more-at k v = max-more (namedOf log i v) k
-
-  noted-at : (k v : ℕ) → v < size log → at (noted (eventOf log i (k + 1)) (namedRow log i k)) v ≡ largest log i (k + 1) v
-  unfolding noted namedOf
-  noted-at k v h = go (isReceive (eventOf log i (k + 1))) refl
-    where
-      go : (b : Bool) → isReceive (eventOf log i (k + 1)) ≡ b → at (noted (eventOf log i (k + 1)) (namedRow log i k)) v ≡ largest log i (k + 1) v
-      go true q =
-          ⊎-elim
-          (λ same.
-          let found = getD-set-same (namedRow log i k) v (max (at (namedRow log i k) v) (eventOf log i (k + 1) .send)) 0 (rw (row-length k) h) in
-          rw (more-at k v, q, eq-eqb _ _ (sym same), ← same, found, row-at k v h))
-          (λ other.
-          let found = getD-set-other (namedRow log i k) (eventOf log i (k + 1) .peer) v (max (at (namedRow log i k) (eventOf log i (k + 1) .peer)) (eventOf log i (k + 1) .send)) 0 other in
-          rw (more-at k v, q, ne-eqb (eventOf log i (k + 1) .peer) v (λ p. other (sym p)), found, row-at k v h) (omega arith))
-          (eq-or-ne v (eventOf log i (k + 1) .peer))
-      go false q = rw (more-at k v, q, row-at k v h) (omega arith)
-
-  pub noted-length : (e : Event) (words : List ℕ) → length (noted e words) ≡ length words
-  unfolding noted
-  noted-length e words = go (isReceive e)
-    where
-      go : (b : Bool) → length (cond b (set words (e .peer) (max (at words (e .peer)) (e .send))) words) ≡ length words
-      go true = simp length-set
-      go false = refl
+  -- words that begin with the row
+  pub row-first : (k : ℕ) (row rest : List ℕ) → row ≡ namedRow log i from k → (v : ℕ) → v < size log → at (row ++ rest) v ≡ largestAfter log i from k v
+  row-first k row rest q v h = rw q (List·getD-append (namedRow log i from k) rest 0 v (rw (row-length k) h) ∙ row-at k v h)
 
   -- one event more
-  pub row-more : (k : ℕ) → noted (eventOf log i (k + 1)) (namedRow log i k) ≡ namedRow log i (k + 1)
-  unfolding namedRow
-  row-more k =
-      tabulate-list (largest log i (k + 1)) (size log) 0 (noted (eventOf log i (k + 1)) (namedRow log i k))
-      (noted-length (eventOf log i (k + 1)) (namedRow log i k) ∙ row-length k) (noted-at k)
+  module _ (k : ℕ) (low : from ≤ k) where
+    noted-at : (v : ℕ) → v < size log → at (noted (eventOf log i (k + 1)) (namedRow log i from k)) v ≡ largestAfter log i from (k + 1) v
+    unfolding noted namedOf
+    noted-at v h = go (isReceive (eventOf log i (k + 1))) refl
+      where
+        go : (b : Bool) → isReceive (eventOf log i (k + 1)) ≡ b → at (noted (eventOf log i (k + 1)) (namedRow log i from k)) v ≡ largestAfter log i from (k + 1) v
+        go true q =
+            ⊎-elim
+            (λ same.
+            let found = getD-set-same (namedRow log i from k) v (max (at (namedRow log i from k) v) (eventOf log i (k + 1) .send)) 0 (rw (row-length k) h) in
+            rw (after-more k v low, q, eq-eqb _ _ (sym same), ← same, found, row-at k v h))
+            (λ other.
+            let found = getD-set-other (namedRow log i from k) (eventOf log i (k + 1) .peer) v (max (at (namedRow log i from k) (eventOf log i (k + 1) .peer)) (eventOf log i (k + 1) .send)) 0 other in
+            rw (after-more k v low, q, ne-eqb (eventOf log i (k + 1) .peer) v (λ p. other (sym p)), found, row-at k v h) (omega arith))
+            (eq-or-ne v (eventOf log i (k + 1) .peer))
+        go false q = rw (after-more k v low, q, row-at k v h) (omega arith)
 
-  vector-at : (e v : ℕ) → v < size log → i < size log → at (set (namedRow log i e) i e) v ≡ component log i e v
-  unfolding component largest
-  vector-at e v h l =
+    pub row-more : noted (eventOf log i (k + 1)) (namedRow log i from k) ≡ namedRow log i from (k + 1)
+    unfolding namedRow
+    row-more =
+        tabulate-list (largestAfter log i from (k + 1)) (size log) 0 (noted (eventOf log i (k + 1)) (namedRow log i from k))
+        (noted-length (eventOf log i (k + 1)) (namedRow log i from k) ∙ row-length k) noted-at
+
+-- the component of another worker, split at an earlier event
+module _ (log : Log) (i from e u : ℕ) (other : u ≢ i) where
+  pub after-within : largestAfter log i from e u ≤ component log i e u
+  unfolding largestAfter namedAfter
+  after-within =
+      rw (component-other log i e u other)
+      (max-least (namedAfter log i from u) e (maxBelow (namedOf log i u) e)
+      (λ k h. ⊎-elim (λ l. rw (lt-leb from k l) (omega arith)) (λ l. rw (le-leb from k l) (max-each (namedOf log i u) e k h)) (lt-or-le k from)))
+
+  pub component-split : (b : ℕ) → component log i from u ≤ b → largestAfter log i from e u ≤ b → component log i e u ≤ b
+  unfolding largestAfter namedAfter
+  component-split b early late =
+      rw (component-other log i e u other)
+      (max-least (namedOf log i u) e b
+      (λ k h.
       ⊎-elim
-      (λ same. rw (eq-eqb v i same, same) (getD-set-same (namedRow log i e) i e 0 (rw (row-length e) l)))
-      (λ other. rw (ne-eqb v i other) (getD-set-other (namedRow log i e) i v e 0 other ∙ row-at e v h))
+      (λ l. let each = max-each (namedOf log i u) from k l in let c = component-other log i from u other in omega arith)
+      (λ l. let each = max-each (namedAfter log i from u) e k h in let same : namedAfter log i from u k ≡ namedOf log i u k = rw (le-leb from k l) in omega arith)
+      (lt-or-le k from)))
+
+module _ (log : Log) (i e : ℕ) where
+  -- the component of another worker, where no event is passed over
+  after-all : (v : ℕ) → v ≢ i → largestAfter log i 0 e v ≡ component log i e v
+  unfolding largestAfter namedAfter
+  after-all v other = max-same (namedAfter log i 0 v) (namedOf log i v) e (λ k h. rw (le-leb 0 k (omega arith))) ∙ sym (component-other log i e v other)
+
+  vector-at : (v : ℕ) → v < size log → i < size log → at (set (namedRow log i 0 e) i e) v ≡ component log i e v
+  vector-at v h l =
+      ⊎-elim
+      (λ same. rw same (getD-set-same (namedRow log i 0 e) i e 0 (rw (row-length log i 0 e) l) ∙ sym (component-own log i e)))
+      (λ other. getD-set-other (namedRow log i 0 e) i v e 0 other ∙ row-at log i 0 e v h ∙ after-all v other)
       (eq-or-ne v i)
 
   -- the vector: the row, with the event itself as component i
-  pub row-vector : (e : ℕ) → i < size log → set (namedRow log i e) i e ≡ vector log i e
+  pub row-vector : i < size log → set (namedRow log i 0 e) i e ≡ vector log i e
   unfolding vector
-  row-vector e l =
-      tabulate-list (component log i e) (size log) 0 (set (namedRow log i e) i e) (simp length-set (row-length e)) (λ v h. vector-at e v h l)
+  row-vector l =
+      tabulate-list (component log i e) (size log) 0 (set (namedRow log i 0 e) i e) (simp length-set (row-length log i 0 e)) (λ v h. vector-at v h l)
 
-  pub vector-length : (e : ℕ) → length (vector log i e) ≡ size log
+  pub vector-length : length (vector log i e) ≡ size log
   unfolding vector
-  vector-length e = length-tabulate (component log i e) (size log)
+  vector-length = length-tabulate (component log i e) (size log)

@@ -1,63 +1,37 @@
--- A visit by scans of the events that are not covered yet: each scan finds the next turn of Figure 2 that does something.
+-- A visit by one pass over the events that are not covered yet: its row gives each turn of Figure 2.
 -- Assumes nothing.
 use mathlib.Core.Path.{_≡_, refl, sym, _∙_, ap}
-use mathlib.Core.Logic.{_⊎_, inl, inr, ⊎-elim, _≢_}
-use mathlib.Core.Bool.{cond}
+use mathlib.Core.Logic.{_⊎_, ⊎-elim, _≢_}
 use mathlib.Core.List.{List}
-use Prim.Native.Nat.{ℕ, zero, suc, _+_, _<_, _≤_}
+use Prim.Native.Nat.{ℕ, _+_, _<_, _≤_}
 use native.Mathlib.Omega.{arith}
-use borrow.Author.Tests.{le-leb, lt-leb, ne-eqb}
-use lib.Dec.{leb, eqb}
+use borrow.Author.Tests.{le-leb, lt-leb}
 use lib.ListN.{length, set, replicate, length-set}
 use lib.Seq.{getD-set-same, getD-set-other}
 use Rattle.ranges.specs.Fold.{maxBelow, sweep}
-use Rattle.ranges.proofs.Max.{max-none, max-each, max-least}
+use Rattle.ranges.proofs.Max.{max-none, max-least}
 use Rattle.ranges.proofs.Order.{lt-or-le, eq-or-ne}
 use Rattle.ranges.proofs.Store.{set-cases, set-grows}
-use Rattle.ranges.proofs.Sweep.{sweep-more, sweep-skip}
+use Rattle.ranges.proofs.Sweep.{sweep-more}
 use Rattle.log.specs.Model.{Log, size, count, eventOf}
 use Rattle.log.proofs.Read.{worker-within}
 use Rattle.accept.specs.WellFormed.{WellFormed}
-use Rattle.causality.specs.declared.figure2.Above.{Above}
 use Rattle.causality.specs.Happened.{IsEvent}
 use Rattle.causality.specs.Cut.{at, namedOf, component, IsCut}
 use Rattle.causality.specs.Figure2.{Found, counted, stored, turn, visitAt, beginning, figure2}
-use Rattle.causality.specs.Visiting.{namedAfter, largestAfter, wordSum, IsAbove, Visiting}
+use Rattle.causality.specs.Row.{namedAfter, largestAfter}
+use Rattle.causality.specs.Visiting.{wordSum, Visiting}
 use Rattle.accept.proofs.Stamps.{stamps-rise}
 use Rattle.causality.proofs.Order.{Rising, index-less, happened-rises}
-use Rattle.causality.proofs.Components.{component-own, component-rises}
+use Rattle.causality.proofs.Components.{component-own, component-other, named-from, component-rises}
 use Rattle.causality.proofs.Recursion.{Ready, grown-ready, Raised, turn-cases, visit-equation}
 use Rattle.causality.proofs.LowerCut.{Visited, turns-visited, visitAt-visited, visited-cut, beginning-words, beginning-cut}
 use Rattle.causality.proofs.VisitCount.{words-raise, turns-visits}
-use Rattle.causality.proofs.Scan.{named-cases}
+use Rattle.causality.proofs.Row.{after-within, component-split}
 
 -- the state of a visit to event e of worker i after the turns of v workers
 abbrev pub turns : Log → ℕ → ℕ → ℕ → Found → Found
 turns log i e v s = sweep (turn (visitAt log) log i e) v (counted s)
-
--- ---- the component of an event, split at an earlier one
-module _ (log : Log) (i from e u : ℕ) (other : u ≢ i) where
-  component-max : (x : ℕ) → component log i x u ≡ maxBelow (namedOf log i u) x
-  unfolding component
-  component-max x = rw (ne-eqb u i other)
-
-  after-within : largestAfter log i from e u ≤ component log i e u
-  unfolding largestAfter namedAfter
-  after-within =
-      rw (component-max e)
-      (max-least (namedAfter log i from u) e (maxBelow (namedOf log i u) e)
-      (λ k h. ⊎-elim (λ l. rw (lt-leb from k l) (omega arith)) (λ l. rw (le-leb from k l) (max-each (namedOf log i u) e k h)) (lt-or-le k from)))
-
-  component-split : (b : ℕ) → component log i from u ≤ b → largestAfter log i from e u ≤ b → component log i e u ≤ b
-  unfolding largestAfter namedAfter
-  component-split b early late =
-      rw (component-max e)
-      (max-least (namedOf log i u) e b
-      (λ k h.
-      ⊎-elim
-      (λ l. let each = max-each (namedOf log i u) from k l in let c = component-max from in omega arith)
-      (λ l. let each = max-each (namedAfter log i from u) e k h in let same : namedAfter log i from u k ≡ namedOf log i u k = rw (le-leb from k l) in omega arith)
-      (lt-or-le k from)))
 
 module _ (log : Log) (ok : WellFormed log) (i from e : ℕ) (cut : List ℕ) (visits : ℕ) (pre : Visiting log i from e cut visits) where
   abbrev start : Found
@@ -73,7 +47,7 @@ module _ (log : Log) (ok : WellFormed log) (i from e : ℕ) (cut : List ℕ) (vi
       let none : maxBelow (namedAfter log i from i) e ≤ 0 =
       max-least (namedAfter log i from i) e 0
       (λ k h.
-      let zero′ : namedOf log i i k ≡ 0 = ⊎-elim (λ z. z) (λ s. absurd (ok .sent i (k + 1) (s .0) .other (s .1))) (named-cases log i i k) in
+      let zero′ : namedOf log i i k ≤ 0 = ⊎-elim (λ some. let by = named-from log i e i k h some in absurd (ok .sent i (k + 1) (by .receive) .other (by .peer))) (λ z. z) (lt-or-le 0 (namedOf log i i k)) in
       ⊎-elim (λ l. rw (lt-leb from k l) (omega arith)) (λ l. rw (le-leb from k l) (omega arith)) (lt-or-le k from)) in
       omega arith
 
@@ -103,106 +77,98 @@ module _ (log : Log) (ok : WellFormed log) (i from e : ℕ) (cut : List ℕ) (vi
         (λ s. s .covered x h)
         (visited .words u)
 
-    -- a worker of which nothing above the cut is named has nothing to do
-    covered : (u : ℕ) → u < size log → largestAfter log i from e u ≤ at (t .cut) u → component log i e u ≤ at (t .cut) u
-    covered u h l =
-        ⊎-elim
-        (λ q. let c : component log i e u ≡ component log i e i = ap (component log i e) q in let a : at (t .cut) u ≡ at (t .cut) i = ap (at (t .cut)) q in omega (arith, component-own log i e, own))
-        (λ other. component-split log i from e u other (at (t .cut) u) (omega (arith, pre .before u h other, visited .grown .grows u)) l)
-        (eq-or-ne u i)
-
-    idle : (u : ℕ) → u < size log → largestAfter log i from e u ≤ at (t .cut) u → turn (visitAt log) log i e u t ≡ t
-    idle u h l =
-        ⊎-elim (λ c. c .1 (visitAt log)) (λ c. let no : ⊥ = omega (arith, covered u h l, c .0 .above) in absurd no)
-        (turn-cases log ok i e u t (pre .event) ready)
-
-    skipped : (w : ℕ) → v ≤ w → w ≤ size log → ((u : ℕ) → v ≤ u → u < w → largestAfter log i from e u ≤ at (t .cut) u) → turns log i e w start ≡ t
-    skipped w low high none =
-        sweep-skip (turn (visitAt log) log i e) (counted start) v w low
-        (λ u a b. rw (← now) (idle u (omega arith) (none u a b))) ∙ sym now
-
     -- all turns are made: the visit is done
     pub ended : v ≡ size log → t ≡ visitAt log i e start
     ended all = now ∙ rw all (sym (visit-equation log ok i e start (pre .event) begin))
 
-    -- the scan found nothing: the visit is done
-    pub finished : (r : Above) → IsAbove log i from e v (t .cut) r → size log ≤ r .worker → t ≡ visitAt log i e start
-    finished r is past =
-        sym (visit-equation log ok i e start (pre .event) begin ∙ skipped (size log) few (omega arith) (λ u a b. is .none u a (omega arith)))
+    -- worker v's turn
+    module _ (inside : v < size log) where
+      after : turns log i e (v + 1) start ≡ turn (visitAt log) log i e v t
+      after = sweep-more (turn (visitAt log) log i e) v (counted start) ∙ ap (turn (visitAt log) log i e v) (sym now)
 
-    -- the scan found worker w and index d
-    module _ (w d : ℕ) (inside : w < size log) (low : v ≤ w) (above : at (t .cut) w < d) (largest : d ≡ largestAfter log i from e w)
-        (none : (u : ℕ) → v ≤ u → u < w → largestAfter log i from e u ≤ at (t .cut) u) where
-      another : w ≢ i
-      another q =
-          let zero′ = own-none in
-          let same : largestAfter log i from e w ≡ largestAfter log i from e i = ap (largestAfter log i from e) q in
-          omega arith
+      covered : largestAfter log i from e v ≤ at (t .cut) v → component log i e v ≤ at (t .cut) v
+      covered l =
+          ⊎-elim
+          (λ q. let c : component log i e v ≡ component log i e i = ap (component log i e) q in let a : at (t .cut) v ≡ at (t .cut) i = ap (at (t .cut)) q in omega (arith, component-own log i e, own))
+          (λ other. component-split log i from e v other (at (t .cut) v) (omega (arith, pre .before v inside other, visited .grown .grows v)) l)
+          (eq-or-ne v i)
 
-      found : component log i e w ≡ d
-      found =
-          let under = after-within log i from e w another in
-          let over = component-split log i from e w another d (omega (arith, pre .before w inside another, visited .grown .grows w)) (omega arith) in
-          omega arith
+      -- nothing above the cut is named of it: nothing is done
+      pub idle : largestAfter log i from e v ≤ at (t .cut) v → t ≡ turns log i e (v + 1) start
+      idle l =
+          ⊎-elim (λ c. sym (after ∙ c .1 (visitAt log))) (λ c. let no : ⊥ = omega (arith, covered l, c .0 .above) in absurd no)
+          (turn-cases log ok i e v t (pre .event) ready)
 
-      rising : Rising log w d i e
-      rising = rw found at (component-rises log ok i e w (pre .event .1) another (let f = found in omega arith))
+      -- index d above the cut is the largest named of it
+      module _ (d : ℕ) (above : at (t .cut) v < d) (largest : d ≡ largestAfter log i from e v) where
+        another : v ≢ i
+        another q =
+            let zero′ = own-none in
+            let same : largestAfter log i from e v ≡ largestAfter log i from e i = ap (largestAfter log i from e) q in
+            omega arith
 
-      raised : Raised log i e w (t .cut)
-      raised =
-          ⊎-elim (λ c. let f = found in let no : ⊥ = omega (arith, c .0) in absurd no) (λ c. c .0) (turn-cases log ok i e w t (pre .event) ready)
+        found : component log i e v ≡ d
+        found =
+            let under = after-within log i from e v another in
+            let over = component-split log i from e v another d (omega (arith, pre .before v inside another, visited .grown .grows v)) (omega arith) in
+            omega arith
 
-      pub turned : turns log i e (w + 1) start ≡ visitAt log w d (stored t w d)
-      turned =
-          sweep-more (turn (visitAt log) log i e) w (counted start)
-          ∙ ap (turn (visitAt log) log i e w) (skipped w low (omega arith) none)
-          ∙ ⊎-elim
-          (λ c. let f = found in let no : ⊥ = omega (arith, c .0) in absurd no)
-          (λ c. rw found at (c .1 (visitAt log)))
-          (turn-cases log ok i e w t (pre .event) ready)
+        rising : Rising log v d i e
+        rising = rw found at (component-rises log ok i e v (pre .event .1) another (let f = found in omega arith))
 
-      pub falls : eventOf log w d .stamp < eventOf log i e .stamp
-      falls = rising .stamps
+        raised : Raised log i e v (t .cut)
+        raised =
+            ⊎-elim (λ c. let f = found in let no : ⊥ = omega (arith, c .0) in absurd no) (λ c. c .0) (turn-cases log ok i e v t (pre .event) ready)
 
-      pub next : Visiting log w (at (t .cut) w) d (set (t .cut) w d) (t .visits)
-      next =
-          record {
-            event = rising .first;
-            isCut = record { long = length-set (t .cut) w d ∙ ready .long; within = within };
-            own = stored-here;
-            before = λ u h other. omega (arith, settled w another early u h, set-grows (t .cut) w d (omega arith) u);
-            settled = later;
-            few = few-visits;
-          }
-        where
-          long : w < length (t .cut)
-          long = rw (ready .long) inside
+        pub turned : visitAt log v d (stored t v d) ≡ turns log i e (v + 1) start
+        turned =
+            ⊎-elim
+            (λ c. let f = found in let no : ⊥ = omega (arith, c .0) in absurd no)
+            (λ c. sym (after ∙ rw found at (c .1 (visitAt log))))
+            (turn-cases log ok i e v t (pre .event) ready)
 
-          stored-here : at (set (t .cut) w d) w ≡ d
-          stored-here = getD-set-same (t .cut) w d 0 long
+        pub falls : eventOf log v d .stamp < eventOf log i e .stamp
+        falls = rising .stamps
 
-          isCut : IsCut log (t .cut)
-          isCut = visited-cut log ok i e v cut (t .cut) (pre .isCut) visited
+        pub next : Visiting log v (at (t .cut) v) d (set (t .cut) v d) (t .visits)
+        next =
+            record {
+              event = rising .first;
+              isCut = record { long = length-set (t .cut) v d ∙ ready .long; within = within };
+              own = stored-here;
+              before = λ u h other. omega (arith, settled v another early u h, set-grows (t .cut) v d (omega arith) u);
+              settled = later;
+              few = few-visits;
+            }
+          where
+            long : v < length (t .cut)
+            long = rw (ready .long) inside
 
-          within : (u : ℕ) → at (set (t .cut) w d) u ≤ count log u
-          within u = ⊎-elim (λ c. rw (c .1, c .0) (rising .first .1)) (λ c. omega (arith, c .1, isCut .within u)) (set-cases (t .cut) w d 0 u long)
+            stored-here : at (set (t .cut) v d) v ≡ d
+            stored-here = getD-set-same (t .cut) v d 0 long
 
-          early : eventOf log w (at (t .cut) w) .stamp < eventOf log i e .stamp
-          early = let less = stamps-rise log ok w (at (t .cut) w) d above (rising .first .1) in omega (arith, rising .stamps)
+            isCut : IsCut log (t .cut)
+            isCut = visited-cut log ok i e v cut (t .cut) (pre .isCut) visited
 
-          later : (u : ℕ) → u ≢ w → eventOf log u (at (set (t .cut) w d) u) .stamp < eventOf log w d .stamp
-              → (x : ℕ) → x < size log → component log u (at (set (t .cut) w d) u) x ≤ at (set (t .cut) w d) x
-          later u other less x h =
-              let same = getD-set-other (t .cut) w u d 0 other in
-              let earlier : eventOf log u (at (t .cut) u) .stamp < eventOf log w d .stamp = rw same at less in
-              let not-own : u ≢ i = λ q. let e′ : eventOf log u (at (t .cut) u) .stamp ≡ eventOf log i e .stamp = rw (q, own) in omega (arith, rising .stamps) in
-              rw same (omega (arith, settled u not-own (omega (arith, rising .stamps)) x h, set-grows (t .cut) w d (omega arith) x))
+            within : (u : ℕ) → at (set (t .cut) v d) u ≤ count log u
+            within u = ⊎-elim (λ c. rw (c .1, c .0) (rising .first .1)) (λ c. omega (arith, c .1, isCut .within u)) (set-cases (t .cut) v d 0 u long)
 
-          few-visits : t .visits ≤ wordSum log (set (t .cut) w d)
-          few-visits =
-              let sum = rw (← now) at (turns-visits log ok i e v start few (pre .event) begin) in
-              let more : wordSum log (t .cut) < wordSum log (set (t .cut) w d) = rw found at (words-raise log i e w (t .cut) (pre .event) ready inside tt raised .0) in
-              omega (arith, pre .few)
+            early : eventOf log v (at (t .cut) v) .stamp < eventOf log i e .stamp
+            early = let less = stamps-rise log ok v (at (t .cut) v) d above (rising .first .1) in omega (arith, rising .stamps)
+
+            later : (u : ℕ) → u ≢ v → eventOf log u (at (set (t .cut) v d) u) .stamp < eventOf log v d .stamp
+                → (x : ℕ) → x < size log → component log u (at (set (t .cut) v d) u) x ≤ at (set (t .cut) v d) x
+            later u other less x h =
+                let same = getD-set-other (t .cut) v u d 0 other in
+                let earlier : eventOf log u (at (t .cut) u) .stamp < eventOf log v d .stamp = rw same at less in
+                let not-own : u ≢ i = λ q. let e′ : eventOf log u (at (t .cut) u) .stamp ≡ eventOf log i e .stamp = rw (q, own) in omega (arith, rising .stamps) in
+                rw same (omega (arith, settled u not-own (omega (arith, rising .stamps)) x h, set-grows (t .cut) v d (omega arith) x))
+
+            few-visits : t .visits ≤ wordSum log (set (t .cut) v d)
+            few-visits =
+                let sum = rw (← now) at (turns-visits log ok i e v start few (pre .event) begin) in
+                let more : wordSum log (t .cut) < wordSum log (set (t .cut) v d) = rw found at (words-raise log i e v (t .cut) (pre .event) ready inside tt raised .0) in
+                omega (arith, pre .few)
 
 -- the words that the search begins with may be visited
 begins : (log : Log) (i e : ℕ) → IsEvent log i e → Visiting log i 0 e (beginning log i e .cut) 0
@@ -220,7 +186,7 @@ begins log i e event =
     words = beginning-words log i e (worker-within log i 0 (omega arith))
 
     nothing : (w u : ℕ) → u ≢ w → component log w 0 u ≡ 0
-    nothing w u other = component-max log w 0 0 u other 0 ∙ max-none (namedOf log w u)
+    nothing w u other = component-other log w 0 u other ∙ max-none (namedOf log w u)
 
     upTo : (w u : ℕ) → component log w 0 u ≡ 0
     upTo w u = ⊎-elim (λ q. rw q (component-own log w 0)) (nothing w u) (eq-or-ne u w)

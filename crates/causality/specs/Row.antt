@@ -3,18 +3,24 @@
 use mathlib.Core.Bool.{cond}
 use mathlib.Core.List.{List}
 use Prim.Native.Nat.{ℕ, max}
+use lib.Dec.{leb}
 use lib.ListN.{set}
 use Rattle.ranges.specs.Fold.{maxBelow, tabulate}
 use Rattle.log.specs.declared.Event.{Event}
 use Rattle.log.specs.Model.{Log, size, isReceive}
 use Rattle.causality.specs.Cut.{at, namedOf}
 
--- the largest index that the first k events of worker i name of worker v
-unfoldable pub largest : Log → ℕ → ℕ → ℕ → ℕ
-largest log i k v = maxBelow (namedOf log i v) k
+-- what event k + 1 of worker i names of worker v, of the events after the first `from`
+unfoldable pub namedAfter : Log → ℕ → ℕ → ℕ → ℕ → ℕ
+namedAfter log i from v k = cond (leb from k) (namedOf log i v k) 0
 
-unfoldable pub namedRow : Log → ℕ → ℕ → List ℕ
-namedRow log i k = tabulate (largest log i k) (size log)
+-- the largest index that events from + 1 .. e of worker i name of worker v
+unfoldable pub largestAfter : Log → ℕ → ℕ → ℕ → ℕ → ℕ
+largestAfter log i from e v = maxBelow (namedAfter log i from v) e
+
+-- what those events name of each worker
+unfoldable pub namedRow : Log → ℕ → ℕ → ℕ → List ℕ
+namedRow log i from e = tabulate (largestAfter log i from e) (size log)
 
 -- the words after event e is noted: a receive raises its peer's word to the send that it names
 unfoldable pub noted : Event → List ℕ → List ℕ

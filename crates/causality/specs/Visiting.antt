@@ -1,31 +1,13 @@
--- What the contracts of the functions behind the lower cut cite: the part of Figure 2 that their scans look at.
+-- What the contract of the visit behind the lower cut cites.
 -- Assumes nothing.
 use mathlib.Core.Path.{_≡_}
 use mathlib.Core.Logic.{_≢_}
-use mathlib.Core.Bool.{cond}
 use mathlib.Core.List.{List}
 use Prim.Native.Nat.{ℕ, _<_, _≤_}
-use lib.Dec.{leb}
-use Rattle.ranges.specs.Fold.{maxBelow, sumBelow}
+use Rattle.ranges.specs.Fold.{sumBelow}
 use Rattle.log.specs.Model.{Log, size, eventOf}
-use Rattle.causality.specs.declared.figure2.Above.{Above}
 use Rattle.causality.specs.Happened.{IsEvent}
-use Rattle.causality.specs.Cut.{at, namedOf, component, IsCut}
-
--- what event k + 1 of worker i names of worker v, of the events after the first `from`
-unfoldable pub namedAfter : Log → ℕ → ℕ → ℕ → ℕ → ℕ
-namedAfter log i from v k = cond (leb from k) (namedOf log i v k) 0
-
--- the largest index that events from + 1 .. e of worker i name of worker v
-unfoldable pub largestAfter : Log → ℕ → ℕ → ℕ → ℕ → ℕ
-largestAfter log i from e v = maxBelow (namedAfter log i from v) e
-
--- what a scan of events from + 1 .. e of worker i finds: the smallest worker not below v of which they name more than the cut holds, and
--- the largest index that they name of it; the worker count where there is none
-pub record IsAbove (log : Log) (i from e v : ℕ) (cut : List ℕ) (r : Above) : Type 0 where
-  pub bound : r .worker ≤ size log
-  pub none : (u : ℕ) → v ≤ u → u < r .worker → largestAfter log i from e u ≤ at cut u
-  pub found : r .worker < size log → (v ≤ r .worker) × (at cut (r .worker) < r .index) × (r .index ≡ largestAfter log i from e (r .worker))
+use Rattle.causality.specs.Cut.{at, component, IsCut}
 
 -- the sum of a cut's words: an event's visits leave it at least as large as the visits made
 unfoldable pub wordSum : Log → List ℕ → ℕ

@@ -86,16 +86,17 @@ fn note(log: &[u8], i: usize, k: u32, words: &mut [u32])
     let e = log::event_at(log, i, k + 1);
     if log::is_receive(e) {
         let peer = e.peer as usize;
-        words[peer] = ranges::larger(words[peer], e.send);
+        let held = words[peer];
+        words[peer] = ranges::larger(held, e.send);
     }
 }
 
-// Notes the first `event` events of worker i in words that are 0.
-fn note_all(log: &[u8], i: usize, event: u32, words: &mut [u32])
-    requires { ⌜ (refusal (now log) ≡ 0) × (now words ≡ replicate (size (logOf (now log))) 0) × (event ≤ count (logOf (now log)) i) ⌝ }
-    ensures { λ _. ⌜ now (words .exit) ≡ namedRow (logOf (now (log .entry))) i event ⌝ }
+// Notes events from + 1 .. event of worker i in words that are 0.
+fn note_all(log: &[u8], i: usize, from: u32, event: u32, words: &mut [u32])
+    requires { ⌜ (refusal (now log) ≡ 0) × (now words ≡ replicate (size (logOf (now log))) 0) × (from ≤ event) × (event ≤ count (logOf (now log)) i) ⌝ }
+    ensures { λ _. ⌜ now (words .exit) ≡ namedRow (logOf (now (log .entry))) i from event ⌝ }
 {
-    let mut k: u32 = 0;
+    let mut k = from;
     while k < event {
         note(log, i, k, words);
         k += 1;
@@ -108,7 +109,7 @@ fn vector_into(log: &[u8], i: usize, event: u32, words: &mut [u32])
     ensures { λ _. ⌜ now (words .exit) ≡ vector (logOf (now (log .entry))) i event ⌝ }
 {
     clear(words);
-    note_all(log, i, event, words);
+    note_all(log, i, 0, event, words);
     words[i] = event;
 }
 

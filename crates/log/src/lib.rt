@@ -13,7 +13,7 @@ const MIN_LENGTH: usize = 8;
 
 const MAX_LENGTH: usize = 4194304;
 
-const MAX_WORKERS: u32 = 64;
+pub const MAX_WORKERS: usize = 64;
 
 const MAX_EVENTS: u32 = 65535;
 
@@ -183,7 +183,7 @@ pub fn layout_refusal(log: &[u8]) -> u32
     if n == 0 {
         return 3;
     }
-    if MAX_WORKERS < n {
+    if MAX_WORKERS < n as usize {
         return 3;
     }
     if length_field(log) as usize != log.len() {

@@ -1,8 +1,6 @@
 -- Laws of `sweep`. Assumes nothing.
 use mathlib.Core.Path.{_≡_, refl, _∙_, ap}
-use mathlib.Core.Logic.{⊎-elim}
-use Prim.Native.Nat.{ℕ, zero, suc, _+_, _<_, _≤_}
-use native.Mathlib.Nat.{eq-or-lt-of-le, le-of-suc-le-suc}
+use Prim.Native.Nat.{ℕ, zero, suc, _+_, _<_}
 use native.Mathlib.Numerals.{add-one}
 use native.Mathlib.Omega.{arith}
 use Rattle.ranges.specs.Fold.{sweep}
@@ -21,15 +19,6 @@ module _ {A : Type 0} (act : ℕ → A → A) where
   unfolding sweep
   sweep-keeps P zero s base turn = base
   sweep-keeps P (suc n) s base turn = turn n (sweep act n s) (omega arith) (sweep-keeps P n s base (λ k t h p. turn k t (omega arith) p))
-
-  -- turns that change nothing are passed over
-  pub sweep-skip : (s : A) (v w : ℕ) → v ≤ w → ((u : ℕ) → v ≤ u → u < w → act u (sweep act v s) ≡ sweep act v s) → sweep act w s ≡ sweep act v s
-  unfolding sweep
-  sweep-skip s v zero h idle = let e : v ≡ 0 = omega arith in rw e
-  sweep-skip s v (suc w) h idle =
-      ⊎-elim (λ e. rw e)
-      (λ l. let below = sweep-skip s v w (le-of-suc-le-suc l) (λ u a b. idle u a (omega arith)) in rw below (idle w (le-of-suc-le-suc l) (omega arith)))
-      (eq-or-lt-of-le h)
 
 -- turns that agree on the states that the sweep comes to
 pub sweep-same : {A : Type 0} (act other : ℕ → A → A) (P : ℕ → A → Type 0) (n : ℕ) (s : A) → P 0 s

@@ -6,7 +6,7 @@ use Prim.Native.Nat.{ℕ, zero, suc, _+_, _<_, _≤_}
 use native.Mathlib.Nat.{not-suc-le-zero, eq-or-lt-of-le, le-of-suc-le-suc}
 use native.Mathlib.Numerals.{add-one}
 use native.Mathlib.Omega.{arith}
-use lib.ListN.{length, getD, set, drop, drop-of-length-le, length-append, length-drop, List·getD-append, List·getD-eq-default, replicate, length-replicate, getD-replicate}
+use lib.ListN.{length, getD, set, take, drop, drop-of-length-le, length-append, length-drop, List·getD-append, List·getD-eq-default, replicate, length-replicate, getD-replicate}
 use lib.Seq.{getD-at, ext-getD, drop-cons, set-at}
 use Rattle.ranges.specs.Fold.{tabulate}
 use Rattle.ranges.proofs.Order.{lt-or-le}
@@ -38,6 +38,12 @@ tabulate-list f n d l e same =
 pub getD-replicate-all : {A : Type 0} (n k : ℕ) (a : A) → getD (replicate n a) k a ≡ a
 getD-replicate-all n k a =
     ⊎-elim (λ l. getD-replicate n k a a l) (λ l. List·getD-eq-default (replicate n a) a (rw (length-replicate n a) l)) (lt-or-le k n)
+
+-- the first of them are the same
+pub take-replicate : {A : Type 0} (n m : ℕ) (a : A) → n ≤ m → take n (replicate m a) ≡ replicate n a
+take-replicate zero m a h = refl
+take-replicate (suc n) zero a h = absurd (not-suc-le-zero h)
+take-replicate (suc n) (suc m) a h = ap (λ l. a ∷ l) (take-replicate n m a (le-of-suc-le-suc h))
 
 -- the first words of a list written one by one: none, one more, and the length
 module _ (f : ℕ → ℕ) (l : List ℕ) where

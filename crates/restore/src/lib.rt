@@ -400,7 +400,7 @@ fn is_covering(log: &[u8], identifier: u32) -> bool
     if some_missing(log, identifier) {
         return false;
     }
-    let mut indices: [u32; 64] = [0; 64];
+    let mut indices: [u32; log::MAX_WORKERS] = [0; log::MAX_WORKERS];
     set_indices(log, identifier, &mut indices);
     !some_unlogged_in(log, &indices)
 }

@@ -21,11 +21,11 @@ is-receive-requires c κs = search needs
 cast-peer : tie.Need-cast-peer
 cast-peer c = search needs
 
-mul-larger : tie.Need-mul-larger
-mul-larger c = search needs
+mul-held : tie.Need-mul-held
+mul-held c = search needs
 
-slice-read-larger : tie.Need-slice-read-larger
-slice-read-larger c = rw (c .before .before .before .before .before .before .before .pre .1) (peer-within _ (c .before .before .before .before .before .before .before .pre .0) _ _ _ (c .before .before .before .before .event-at .ensures) (sym (c .before .before .before .is-receive .ensures) ∙ c .before .before .if1 .taken))
+slice-read-held : tie.Need-slice-read-held
+slice-read-held c = rw (c .before .before .before .before .before .before .before .pre .1) (peer-within _ (c .before .before .before .before .before .before .before .pre .0) _ _ _ (c .before .before .before .before .event-at .ensures) (sym (c .before .before .before .is-receive .ensures) ∙ c .before .before .if1 .taken))
 
 larger-requires : tie.Need-larger-requires
 larger-requires c κs = search needs
@@ -55,8 +55,8 @@ note-spec =
     event-at-requires
     is-receive-requires
     cast-peer
-    mul-larger
-    slice-read-larger
+    mul-held
+    slice-read-held
     larger-requires
     mul-words
     slice-write-words

@@ -12,31 +12,31 @@ use Rattle.causality.proofs.note_all.Statement.{statement}
 use Rattle.causality.proofs.note_all.Tie as tie
 
 abbrev Inv-loop : tie.InvT-loop
-Inv-loop log i event words₀ k₀ words k = (k ≤ event) × (words ≡ namedRow (logOf log) i k)
+Inv-loop log i from event words₀ k₀ words k = (from ≤ k) × (k ≤ event) × (words ≡ namedRow (logOf log) i from k)
 
 abbrev μ-loop : tie.MeasureT-loop
-μ-loop log i event words₀ k₀ words k = event - k
+μ-loop log i from event words₀ k₀ words k = event - k
 
 loop-holds : tie.Need-loop-holds Inv-loop μ-loop
-loop-holds c = (search needs, c .before .before .pre .1 ∙ row-none _ _)
+loop-holds c = (search needs, c .before .before .pre .2, c .before .before .pre .1 ∙ row-none _ _ _)
 
 note-requires : tie.Need-note-requires Inv-loop μ-loop
-note-requires c κs = (c .before .before .before .before .before .pre .0, rw (c .before .before .loop .inv .1) (row-length _ _ _), omega (arith, c .before .before .before .before .before .pre .2))
+note-requires c κs = (c .before .before .before .before .before .pre .0, rw (c .before .before .loop .inv .2) (row-length _ _ _ _), omega (arith, c .before .before .before .before .before .pre .3))
 
 add-k : tie.Need-add-k Inv-loop μ-loop
-add-k c = omega (arith, c .before .before .before .before .before .loop .inv .0)
+add-k c = omega (arith, c .before .before .before .before .before .loop .inv .1)
 
 loop-less : tie.Need-loop-less Inv-loop μ-loop
 loop-less c = omega (arith, c .before .before .before .before .loop-test .taken)
 
 loop-again : tie.Need-loop-again Inv-loop μ-loop
-loop-again c = (omega (arith, c .before .before .before .before .loop-test .taken), c .before .before .note .ensures ∙ rw (c .before .before .before .before .before .loop .inv .1) (row-more _ _ _))
+loop-again c = (omega (arith, c .before .before .before .before .before .loop .inv .0), omega (arith, c .before .before .before .before .loop-test .taken), c .before .before .note .ensures ∙ rw (c .before .before .before .before .before .loop .inv .2) (row-more _ _ _ _ (c .before .before .before .before .before .loop .inv .0)))
 
 same-length : tie.Need-same-length Inv-loop μ-loop
-same-length c = rw (c .before .loop .inv .1, c .before .before .before .before .pre .1) (row-length _ _ _ ∙ sym (length-replicate _ _))
+same-length c = rw (c .before .loop .inv .2, c .before .before .before .before .pre .1) (row-length _ _ _ _ ∙ sym (length-replicate _ _))
 
 returns : tie.Need-returns Inv-loop μ-loop
-returns c = c .before .loop .inv .1 ∙ rw (le-antisymm (c .before .loop .inv .0) (c .loop-test .left))
+returns c = c .before .loop .inv .2 ∙ rw (le-antisymm (c .before .loop .inv .1) (c .loop-test .left))
 
 pub note-all-spec : {M : Type 1} → statement M
 note-all-spec =

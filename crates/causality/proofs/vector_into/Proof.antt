@@ -11,16 +11,16 @@ clear-requires : tie.Need-clear-requires
 clear-requires c κs = search needs
 
 note-all-requires : tie.Need-note-all-requires
-note-all-requires c κs = (c .before .before .before .before .before .before .before .pre .0, rw (c .before .before .before .before .before .before .before .pre .1) at (c .before .before .before .clear .ensures), c .before .before .before .before .before .before .before .pre .3)
+note-all-requires c κs = (c .before .before .before .before .before .before .before .pre .0, rw (c .before .before .before .before .before .before .before .pre .1) at (c .before .before .before .clear .ensures), search needs, c .before .before .before .before .before .before .before .pre .3)
 
 mul-words : tie.Need-mul-words
 mul-words c = search needs
 
 slice-write-words : tie.Need-slice-write-words
-slice-write-words c = rw (c .before .before .note-all .ensures) (rw (row-length (logOf (c .before .before .before .before .before .before .before .before .before .before .args .log .now)) (c .before .before .before .before .before .before .before .before .before .before .args .i) (c .before .before .before .before .before .before .before .before .before .before .args .event)) (c .before .before .before .before .before .before .before .before .before .before .pre .2))
+slice-write-words c = rw (c .before .before .note-all .ensures) (rw (row-length (logOf (c .before .before .before .before .before .before .before .before .before .before .args .log .now)) (c .before .before .before .before .before .before .before .before .before .before .args .i) 0 (c .before .before .before .before .before .before .before .before .before .before .args .event)) (c .before .before .before .before .before .before .before .before .before .before .pre .2))
 
 same-length : tie.Need-same-length
-same-length c = simp length-set (c .before .before .note-all .kept .1 .1 .1 .0 ∙ c .before .before .before .before .before .before .clear .kept .0)
+same-length c = simp length-set (c .before .before .note-all .kept .1 .1 .1 .1 .0 ∙ c .before .before .before .before .before .before .clear .kept .0)
 
 returns : tie.Need-returns
 returns c = rw (c .before .before .note-all .ensures) (row-vector _ _ _ (c .before .before .before .before .before .before .before .before .before .before .pre .2))

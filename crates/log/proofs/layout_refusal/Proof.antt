@@ -27,6 +27,9 @@ returns-4 : tie.Need-returns-4
 unfolding layout lengthFault formFault sizeFault headerFault
 returns-4 c = rw (le-ltb _ _ (c .before .before .before .before .before .if1 .left), le-ltb _ _ (c .before .before .before .before .if2 .left), ← c .before .before .before .form-field .ensures, eq-eqb _ _ (c .before .before .if3 .left), ← c .before .size-field .ensures, eq-eqb _ _ (c .if4 .taken))
 
+cast-if5 : tie.Need-cast-if5
+cast-if5 c = search needs
+
 returns-5 : tie.Need-returns-5
 unfolding layout lengthFault formFault sizeFault headerFault
 returns-5 c = rw (le-ltb _ _ (c .before .before .before .before .before .before .if1 .left), le-ltb _ _ (c .before .before .before .before .before .if2 .left), ← c .before .before .before .before .form-field .ensures, eq-eqb _ _ (c .before .before .before .if3 .left), ← c .before .before .size-field .ensures, ne-eqb _ _ (c .before .if4 .left), lt-ltb _ _ (c .if5 .taken))
@@ -65,6 +68,7 @@ layout-refusal-spec =
     returns-3
     size-field-requires
     returns-4
+    cast-if5
     returns-5
     length-field-requires
     cast-if6
