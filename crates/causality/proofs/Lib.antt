@@ -8,5 +8,5 @@ pub mod UpperLine
 pub mod WorkersWord
 pub mod Lent
 pub mod Row
-pub mod Rounds
+pub mod Raising
 pub mod Turns

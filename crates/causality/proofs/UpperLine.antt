@@ -24,7 +24,7 @@ use Rattle.causality.specs.Upper.{happened, upperAt, upperLine}
 use Rattle.causality.proofs.Order.{receive-event, send-rises, happened-rises, happened-irreflexive, happened-to, Through, happened-last, consistent-holds}
 use Rattle.causality.proofs.LowerCut.{lower-is, lower-happened}
 
--- what a program that finds the upper line has to show: the words are a cut that ends at the breakpoint event, ..
+-- a line that is closed and cannot be extended: the words are a cut that ends at the breakpoint event, ..
 pub record IsUpper (log : Log) (i e : ℕ) (line : List ℕ) : Type 0 where
   pub isCut : IsCut log line
   pub own : at line i ≡ e

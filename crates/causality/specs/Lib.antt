@@ -3,7 +3,7 @@ pub mod Cut
 pub mod Figure2
 pub mod Upper
 pub mod Row
-pub mod Rounds
+pub mod Raising
 pub mod Visiting
 pub mod Workers
 pub mod Lent

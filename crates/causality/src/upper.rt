@@ -1,14 +1,15 @@
-// The upper line of a breakpoint event: each other worker is moved on, event by event, until its next event is blocked.
+// The upper line of a breakpoint event: each other worker is moved on, event by event, up to one that the breakpoint event happened before.
 
 ghost use mathlib.Core.Path.{_≡_};
-ghost use Prim.Native.Nat.{_+_, _<_};
+ghost use mathlib.Core.Logic.{_≢_};
+ghost use Prim.Native.Nat.{_+_, _<_, _≤_};
 ghost use lib.ListN.{length};
 ghost use Rattle.log.specs.Layout.{logOf};
 ghost use Rattle.log.specs.Model.{size, count};
 ghost use Rattle.accept.specs.Refusal.{refusal};
 ghost use Rattle.causality.specs.Happened.{IsEvent};
 ghost use Rattle.causality.specs.Upper.{upperLine};
-ghost use Rattle.causality.specs.Rounds.{blocked, Passed, Turned};
+ghost use Rattle.causality.specs.Raising.{blocked, Passed, Raised};
 
 // Whether event k + 1 of worker w is a receive of a send beyond the line, or of the breakpoint event's message.
 fn is_blocked(log: &[u8], i: usize, event: u32, w: usize, k: u32, line: &[u32]) -> bool
@@ -29,41 +30,40 @@ fn is_blocked(log: &[u8], i: usize, event: u32, w: usize, k: u32, line: &[u32]) 
     e.send == event
 }
 
-// Moves worker w on to its first blocked event; whether it moved. The breakpoint's own worker stays.
-fn advance(log: &[u8], i: usize, event: u32, w: usize, line: &mut [u32]) -> bool
-    requires { ⌜ (refusal (now log) ≡ 0) × (w < size (logOf (now log))) × Passed (logOf (now log)) i event (now line) ⌝ }
-    ensures { λ r. ⌜ Turned (logOf (now (log .entry))) i event w (w + 1) (now (line .entry)) (now (line .exit)) r ⌝ }
+// Moves worker w on to event `target`, or to just before its first event that the breakpoint event happened before. A sender is moved on
+// first, as far as its message is awaited; the stamps of the awaited events fall.
+fn raise(log: &[u8], i: usize, event: u32, w: usize, target: u32, line: &mut [u32])
+    requires { ⌜ (refusal (now log) ≡ 0) × IsEvent (logOf (now log)) i event × (w < size (logOf (now log))) × (w ≢ i) × (target ≤ count (logOf (now log)) w) × Passed (logOf (now log)) i event (now line) ⌝ }
+    ensures { λ _. ⌜ Raised (logOf (now (log .entry))) i event w target (now (line .entry)) (now (line .exit)) ⌝ }
 {
-    if w == i {
-        return false;
-    }
-    let number = log::count_of(log, w);
-    let mut moved = false;
-    let mut k = line[w];
-    while k < number {
-        if is_blocked(log, i, event, w, k, line) {
-            return moved;
+    while line[w] < target {
+        let k = line[w];
+        if !is_blocked(log, i, event, w, k, line) {
+            line[w] = k + 1;
+            continue;
         }
-        k += 1;
-        line[w] = k;
-        moved = true;
+        let e = log::event_at(log, w, k + 1);
+        let sender = e.peer as usize;
+        if sender == i {
+            return;
+        }
+        raise(log, i, event, sender, e.send, line);
+        if line[sender] < e.send {
+            return;
+        }
     }
-    moved
 }
 
-// A turn of each worker; whether one of them moved.
-fn round(log: &[u8], i: usize, event: u32, line: &mut [u32]) -> bool
-    requires { ⌜ (refusal (now log) ≡ 0) × Passed (logOf (now log)) i event (now line) ⌝ }
-    ensures { λ r. ⌜ Turned (logOf (now (log .entry))) i event 0 (size (logOf (now (log .entry)))) (now (line .entry)) (now (line .exit)) r ⌝ }
+// Moves worker w on as far as it can go. The breakpoint's own worker stays.
+fn raise_worker(log: &[u8], i: usize, event: u32, w: usize, line: &mut [u32])
+    requires { ⌜ (refusal (now log) ≡ 0) × IsEvent (logOf (now log)) i event × (w < size (logOf (now log))) × Passed (logOf (now log)) i event (now line) ⌝ }
+    ensures { λ _. ⌜ Raised (logOf (now (log .entry))) i event w (count (logOf (now (log .entry))) w) (now (line .entry)) (now (line .exit)) ⌝ }
 {
-    let n = log::size_of(log);
-    let mut moved = false;
-    let mut w: usize = 0;
-    while w < n {
-        moved = advance(log, i, event, w, line) | moved;
-        w += 1;
+    if w == i {
+        return;
     }
-    moved
+    let number = log::count_of(log, w);
+    raise(log, i, event, w, number, line);
 }
 
 // The upper line of event `event` of worker i, in as many words as there are workers.
@@ -73,5 +73,10 @@ pub fn upper_into(log: &[u8], i: usize, event: u32, line: &mut [u32])
 {
     super::clear(line);
     line[i] = event;
-    while round(log, i, event, line) {}
+    let n = log::size_of(log);
+    let mut w: usize = 0;
+    while w < n {
+        raise_worker(log, i, event, w, line);
+        w += 1;
+    }
 }

@@ -4,7 +4,7 @@ use native.Mathlib.Omega.{arith}
 use borrow.Author.Tests.{lt-ltb, le-ltb, eq-eqb, ne-eqb, not-true, not-false}
 use Rattle.log.proofs.Read.{count-field}
 use Rattle.accept.proofs.Accepted.{accepted-layout}
-use Rattle.causality.specs.Rounds.{blocked}
+use Rattle.causality.specs.Raising.{blocked}
 use Rattle.causality.proofs.Row.{peer-within}
 use borrow.Author.Needs.{needs}
 use Rattle.causality.proofs.upper.is_blocked.Statement.{statement}
