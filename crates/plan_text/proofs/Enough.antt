@@ -12,6 +12,7 @@ use lib.Dec.{eqb}
 use lib.ListN.{length, take, drop, getD}
 use lib.Seq.{take-at, drop-length}
 use Rattle.ranges.proofs.Tabulate.{length-tabulate}
+use Rattle.log.specs.Limits.{maxWorkers}
 use Rattle.log.specs.Layout.{logOf}
 use Rattle.log.specs.Model.{Log, size}
 use Rattle.accept.specs.Refusal.{orElse}
@@ -43,24 +44,24 @@ unfolding planTotals
 totals-long s w e = refl
 
 module _ (s : List ℕ) (w e : ℕ) where
-  pub few : breakpointRefusal s w e ≡ 0 → size (logOf s) ≤ 64
+  pub few : breakpointRefusal s w e ≡ 0 → size (logOf s) ≤ maxWorkers
   few accepted = well-formed s (breakpoint-accepted s w e accepted) .few
 
   -- ---- refusals 14 and 15 are not given for the words of the program
-  pub plan-number : planRefused s w e 192 4096 4 ≡ breakpointRefusal s w e
+  pub plan-number : planRefused s w e (3 * maxWorkers) (maxWorkers * maxWorkers) 4 ≡ breakpointRefusal s w e
   unfolding planRefused orElse wordsRefusal scratchRefusal
   plan-number = go (eqb (breakpointRefusal s w e) 0) refl
     where
-      go : (b : Bool) → eqb (breakpointRefusal s w e) 0 ≡ b → planRefused s w e 192 4096 4 ≡ breakpointRefusal s w e
+      go : (b : Bool) → eqb (breakpointRefusal s w e) 0 ≡ b → planRefused s w e (3 * maxWorkers) (maxWorkers * maxWorkers) 4 ≡ breakpointRefusal s w e
       go true q =
           let accepted = eqb-true (breakpointRefusal s w e) 0 q in
           let n = few accepted in
-          rw (accepted, le-ltb 192 (3 * size (logOf s)) (omega arith), le-ltb 4096 (size (logOf s) * size (logOf s)) (mul-le-mul n n))
+          rw (accepted, le-ltb (3 * maxWorkers) (3 * size (logOf s)) (omega arith), le-ltb (maxWorkers * maxWorkers) (size (logOf s) * size (logOf s)) (mul-le-mul n n))
       go false q = rw q
 
-  pub line-number : breakpointRefusal s w e ≡ 0 → lineRefusal s w e 64 ≡ 0
+  pub line-number : breakpointRefusal s w e ≡ 0 → lineRefusal s w e maxWorkers ≡ 0
   unfolding lineRefusal orElse wordsRefusal
-  line-number accepted = rw (accepted, le-ltb 64 (size (logOf s)) (few accepted))
+  line-number accepted = rw (accepted, le-ltb maxWorkers (size (logOf s)) (few accepted))
 
   -- ---- the text for a number that refuses, and for none
   pub refused-text : (number : ℕ) → number ≡ breakpointRefusal s w e → number ≢ 0 → planText s w e ≡ refusedText number

@@ -10,6 +10,7 @@ use lib.Dec.{eqb, ltb}
 use lib.ListN.{length, drop, length-append}
 use lib.Seq.{take-all}
 use Rattle.bytes_le.specs.Little.{le}
+use Rattle.log.specs.Limits.{maxWorkers}
 use Rattle.log.specs.Layout.{logOf}
 use Rattle.log.specs.Model.{Log, size, roleOf}
 use Rattle.causality.specs.Cut.{at}
@@ -86,7 +87,7 @@ totals-few : (text : List ℕ) (visits events units workers : ℕ) → length (t
 totals-few text visits events units workers =
     omega (arith, four-few text (ascii "visits ") (ascii " events ") (ascii " units ") (ascii " workers ") visits events units workers)
 
-found-few : (log : Log) (w e : ℕ) → size log ≤ 64 → length (foundText log w e) ≤ 65536
+found-few : (log : Log) (w e : ℕ) → size log ≤ maxWorkers → length (foundText log w e) ≤ 65536
 unfolding foundText
 found-few log w e h =
     let cut = lowerCut log w e in

@@ -18,6 +18,11 @@ ghost use Rattle.plan_text.specs.Buffer.{Holds, Adds};
 // The longest input, in bytes.
 const MAX_INPUT: usize = 65536;
 
+// The words of the longest plan, and the scratch for it.
+const PLAN_WORDS: usize = 3 * log::MAX_WORKERS;
+
+const SCRATCH: usize = log::MAX_WORKERS * log::MAX_WORKERS;
+
 // Puts a byte at a place of the text, where there is room for it, and gives the place after it.
 fn put_byte(out: &mut [u8], at: usize, byte: u8) -> usize
     ensures { λ r. ⌜ Adds (now (out .entry)) at (now (out .exit)) r (λ text. text ++ (byte ∷ [])) ⌝ }
@@ -205,14 +210,14 @@ fn put_found(
 fn put_plan(out: &mut [u8], log: &[u8], worker: u32, event: u32) -> usize
     ensures { λ r. ⌜ Holds (now (out .entry)) (planText (now (log .entry)) worker event) (now (out .exit)) r ⌝ }
 {
-    let mut words: [u32; 192] = [0; 192];
-    let mut scratch: [u32; 4096] = [0; 4096];
-    let mut totals: [u64; 4] = [0; 4];
+    let mut words = [0u32; PLAN_WORDS];
+    let mut scratch = [0u32; SCRATCH];
+    let mut totals = [0u64; 4];
     let number = planner::plan(log, worker, event, &mut words, &mut scratch, &mut totals);
     if number != 0 {
         return put_refused(out, number);
     }
-    let mut upper: [u32; 64] = [0; 64];
+    let mut upper = [0u32; log::MAX_WORKERS];
     planner::upper_line(log, worker, event, &mut upper);
     let n = log::size_of(log);
     put_found(
