@@ -108,6 +108,14 @@ module _ (s : List ℕ) (accepted : refusal s ≡ 0) where
         go false p true q f = inr q
         go false p false q f = absurd (false≢true (sym f))
 
+    peer : e .peer < size (logOf s)
+    unfolding peerFault
+    peer = leb-false _ _ (or-false-right (eqb (e .peer) w) (leb (size (logOf s)) (e .peer)) (kind-peer-send .1))
+
+    names-none : isSend e ≡ true → e .send ≡ 0
+    unfolding sendFault
+    names-none is = eqb-true (e .send) 0 (not-false (eqb (e .send) 0) (rw is at (kind-peer-send .2)))
+
     rise : eventOf (logOf s) w k .stamp < eventOf (logOf s) w (k + 1) .stamp
     unfolding eventFault stampFault
     rise = leb-false _ _ (event-passed 8 w k (tests .1) refl h)
@@ -129,14 +137,13 @@ module _ (s : List ℕ) (accepted : refusal s ≡ 0) where
     sent-by r =
         let itself = eqb (e .peer) w in
         let past = leb (size (logOf s)) (e .peer) in
-        let peer = kind-peer-send .1 in
         let send : (eqb (e .send) 0 || ltb (count (logOf s) (e .peer)) (e .send)) ≡ false = rw (not-send e r) at (kind-peer-send .2) in
         let zero = eqb (e .send) 0 in
         let over = ltb (count (logOf s) (e .peer)) (e .send) in
         let positive = eqb-false (e .send) 0 (or-false-left zero over send) in
         record {
-          other = eqb-false (e .peer) w (or-false-left itself past peer);
-          within = leb-false _ _ (or-false-right itself past peer);
+          other = eqb-false (e .peer) w (or-false-left itself past (kind-peer-send .1));
+          within = peer;
           positive = omega (arith, positive);
           counted = ltb-false _ _ (or-false-right zero over send);
           send = source r .0;
@@ -170,6 +177,8 @@ module _ (s : List ℕ) (accepted : refusal s ≡ 0) where
         recorded = λ w. checkpoints-field s accepted-layout w .1;
         roles = λ w. role-field s accepted-layout w .1;
         kinds = kinds;
+        peers = peers;
+        nameless = nameless;
         rises = rise;
         sent = sent;
         indices = index-within;
@@ -180,6 +189,14 @@ module _ (s : List ℕ) (accepted : refusal s ≡ 0) where
       kinds : (w x : ℕ) → 0 < x → x ≤ count (logOf s) w → (isSend (eventOf (logOf s) w x) ≡ true) ⊎ (isReceive (eventOf (logOf s) w x) ≡ true)
       kinds w zero p h = let no : ⊥ = omega arith in absurd no
       kinds w (suc k) p h = rw add-one at (kind w k h)
+
+      peers : (w x : ℕ) → 0 < x → x ≤ count (logOf s) w → eventOf (logOf s) w x .peer < size (logOf s)
+      peers w zero p h = let no : ⊥ = omega arith in absurd no
+      peers w (suc k) p h = rw add-one at (peer w k h)
+
+      nameless : (w x : ℕ) → 0 < x → x ≤ count (logOf s) w → isSend (eventOf (logOf s) w x) ≡ true → eventOf (logOf s) w x .send ≡ 0
+      nameless w zero p h = let no : ⊥ = omega arith in absurd no
+      nameless w (suc k) p h = rw add-one at (names-none w k h)
 
       sent : (w x : ℕ) → isReceive (eventOf (logOf s) w x) ≡ true → Sent (logOf s) w (eventOf (logOf s) w x)
       sent w zero r = let no = receive-within (logOf s) w 0 r in let no′ : ⊥ = omega arith in absurd no′

@@ -26,6 +26,9 @@ pub record WellFormed (log : Log) : Type 0 where
   pub recorded : (w : ℕ) → checkpoints log w ≤ maxCheckpoints
   pub roles : (w : ℕ) → roleOf log w ≤ maxRole
   pub kinds : (w x : ℕ) → 0 < x → x ≤ count log w → (isSend (eventOf log w x) ≡ true) ⊎ (isReceive (eventOf log w x) ≡ true)
+  -- an event's peer is a worker, and a send names no event
+  pub peers : (w x : ℕ) → 0 < x → x ≤ count log w → eventOf log w x .peer < size log
+  pub nameless : (w x : ℕ) → 0 < x → x ≤ count log w → isSend (eventOf log w x) ≡ true → eventOf log w x .send ≡ 0
   -- stamps are positive and rise within a worker: event 0 has stamp 0
   pub rises : (w k : ℕ) → k < count log w → eventOf log w k .stamp < eventOf log w (k + 1) .stamp
   pub sent : (w x : ℕ) → isReceive (eventOf log w x) ≡ true → Sent log w (eventOf log w x)

@@ -8,5 +8,6 @@ pub mod UpperLine
 pub mod WorkersWord
 pub mod Lent
 pub mod Row
+pub mod Peers
 pub mod Raising
 pub mod Turns

@@ -14,17 +14,10 @@ use Rattle.ranges.proofs.Max.{max-more, max-each, max-least, max-same}
 use Rattle.ranges.proofs.Order.{lt-or-le, eq-or-ne}
 use Rattle.ranges.proofs.Tabulate.{length-tabulate, getD-tabulate, tabulate-list}
 use Rattle.log.specs.declared.Event.{Event}
-use Rattle.log.specs.Layout.{logOf}
 use Rattle.log.specs.Model.{Log, size, eventOf, isReceive}
-use Rattle.accept.specs.Refusal.{refusal}
-use Rattle.accept.proofs.Accepted.{well-formed}
 use Rattle.causality.specs.Cut.{at, namedOf, component, vector}
 use Rattle.causality.specs.Row.{namedAfter, largestAfter, namedRow, noted}
 use Rattle.causality.proofs.Components.{component-own, component-other}
-
--- the peer of a receive that was read is a worker of the log
-pub peer-within : (s : List ℕ) → refusal s ≡ 0 → (w x : ℕ) (e : Event) → e ≡ eventOf (logOf s) w x → isReceive e ≡ true → e .peer < size (logOf s)
-peer-within s accepted w x e q r = rw q (well-formed s accepted .sent w x (rw q at r) .within)
 
 noted-length : (e : Event) (words : List ℕ) → length (noted e words) ≡ length words
 unfolding noted

@@ -78,17 +78,15 @@ fn clear(words: &mut [u32])
     }
 }
 
-// Notes event k + 1 of worker i: a receive raises its peer's word to the send that it names.
+// Notes event k + 1 of worker i: its peer's word is raised to the send that it names. A send names 0, which raises nothing.
 fn note(log: &[u8], i: usize, k: u32, words: &mut [u32])
     requires { ⌜ (refusal (now log) ≡ 0) × (length (now words) ≡ size (logOf (now log))) × (k < count (logOf (now log)) i) ⌝ }
     ensures { λ _. ⌜ now (words .exit) ≡ noted (eventOf (logOf (now (log .entry))) i (k + 1)) (now (words .entry)) ⌝ }
 {
     let e = log::event_at(log, i, k + 1);
-    if log::is_receive(e) {
-        let peer = e.peer as usize;
-        let held = words[peer];
-        words[peer] = ranges::larger(held, e.send);
-    }
+    let peer = e.peer as usize;
+    let held = words[peer];
+    words[peer] = ranges::larger(held, e.send);
 }
 
 // Notes events from + 1 .. event of worker i in words that are 0.
@@ -218,15 +216,12 @@ pub fn lower_cut(log: &[u8], worker: u32, event: u32, words: &mut [u32], scratch
     found_cut(log, worker as usize, event, &mut words[..n])
 }
 
-// Whether event k + 1 of worker w is a receive whose send is not within the cut.
+// Whether event k + 1 of worker w is a receive whose send is not within the cut. A send names 0, which is within every cut.
 fn is_lacking(log: &[u8], cut: &[u32], w: usize, k: u32) -> bool
     requires { ⌜ (refusal (now log) ≡ 0) × (size (logOf (now log)) ≤ length (now cut)) × (k < count (logOf (now log)) w) ⌝ }
     ensures { λ r. ⌜ r ≡ lacks (logOf (now (log .entry))) (now (cut .entry)) w k ⌝ }
 {
     let e = log::event_at(log, w, k + 1);
-    if !log::is_receive(e) {
-        return false;
-    }
     let peer = e.peer as usize;
     cut[peer] < e.send
 }

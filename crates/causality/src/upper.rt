@@ -11,15 +11,13 @@ ghost use Rattle.causality.specs.Happened.{IsEvent};
 ghost use Rattle.causality.specs.Upper.{upperLine};
 ghost use Rattle.causality.specs.Raising.{blocked, Passed, Raised};
 
-// Whether event k + 1 of worker w is a receive of a send beyond the line, or of the breakpoint event's message.
+// Whether event k + 1 of worker w is a receive of a send beyond the line, or of the breakpoint event's message. A send names 0, which is
+// neither.
 fn is_blocked(log: &[u8], i: usize, event: u32, w: usize, k: u32, line: &[u32]) -> bool
-    requires { ⌜ (refusal (now log) ≡ 0) × (length (now line) ≡ size (logOf (now log))) × (k < count (logOf (now log)) w) ⌝ }
+    requires { ⌜ (refusal (now log) ≡ 0) × (length (now line) ≡ size (logOf (now log))) × (k < count (logOf (now log)) w) × (0 < event) ⌝ }
     ensures { λ r. ⌜ r ≡ blocked (logOf (now (log .entry))) i event (now (line .entry)) w k ⌝ }
 {
     let e = log::event_at(log, w, k + 1);
-    if !log::is_receive(e) {
-        return false;
-    }
     let peer = e.peer as usize;
     if line[peer] < e.send {
         return true;

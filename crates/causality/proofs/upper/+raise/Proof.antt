@@ -58,7 +58,7 @@ module _ (t : ℕ) where
   raise-slice-read-k c = rw (c .before .before .before .loop .inv .0 .isCut .long) (c .before .before .before .before .before .before .pre .1 .2)
 
   raise-is-blocked-requires : raise-lts.Need-is-blocked-requires (is-blocked-reads.Asked, is-blocked-reads.Learnt, event-at-reads.Asked, event-at-reads.Learnt, raise-below t, raise.Post) (raise-at t) raise.Post raise-Inv-loop raise-μ-loop
-  raise-is-blocked-requires c κs = (c .before .before .before .before .before .before .before .pre .1 .0, c .before .before .before .before .loop .inv .0 .isCut .long, lt-of-lt-of-le (c .before .before .if1 .taken) (c .before .before .before .before .before .before .before .pre .1 .4))
+  raise-is-blocked-requires c κs = (c .before .before .before .before .before .before .before .pre .1 .0, c .before .before .before .before .loop .inv .0 .isCut .long, lt-of-lt-of-le (c .before .before .if1 .taken) (c .before .before .before .before .before .before .before .pre .1 .4), c .before .before .before .before .before .before .before .pre .1 .1 .0)
 
   raise-add-line : raise-lts.Need-add-line (is-blocked-reads.Asked, is-blocked-reads.Learnt, event-at-reads.Asked, event-at-reads.Learnt, raise-below t, raise.Post) (raise-at t) raise.Post raise-Inv-loop raise-μ-loop
   raise-add-line c = search needs
