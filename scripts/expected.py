@@ -1,15 +1,15 @@
-"""What the programs that run stored cases must print for a case, from reference.py."""
+"""What the program `cases` must print for a case, from reference.py."""
 
 import struct
 
 import reference
 
-# The words that causality_cases looks at (and replay_cases of the positions), those of the plan, and the scratch words.
+# The words that the program looks at after a call: of a vector, cut, line or positions, of a plan, and of the scratch.
 LENT = 72
 PLAN_LENT = 200
 ROOM = 4104
 
-# The identifiers that restore_cases tests.
+# The identifiers that are tested for a covering set.
 IDENTIFIERS = (0, 1, 2, 3, 4294967295)
 
 
@@ -29,10 +29,6 @@ def one_less(n):
 def size(log):
     """The number of workers; 0 where the log is refused."""
     return 0 if reference.refusal(log) else reference.read(log).n
-
-
-def accept_lines(name, content):
-    return "%s %d\n" % (name, reference.refusal(content[8:]))
 
 
 def after_call(number, n, words, most=LENT):
@@ -71,12 +67,9 @@ def tests_changed(log, words, n, by):
     return shown + "\n"
 
 
-def causality_lines(name, content):
-    worker, event = struct.unpack_from("<II", content)
-    log = content[8:]
-    case = (log, worker, event)
-    n = size(log)
-    text = name + "\n"
+def causality_lines(case, n):
+    log = case[0]
+    text = ""
     for call_name, call in (("vector", reference.vector_call), ("upper line", reference.upper_line_call)):
         for lent in (LENT, n, one_less(n)):
             text += line_of(call_name, call, case, n, lent)
@@ -104,15 +97,12 @@ def covers_line(log, identifier):
     return "covers %d refusal %d %s\n" % (identifier, number, "yes" if yes else "no")
 
 
-def restore_lines(name, content):
-    worker, event = struct.unpack_from("<II", content)
-    log = content[8:]
-    n = size(log)
+def restore_lines(case, n):
     short_room = one_less(n * n)
-    text = name + "\n"
+    text = ""
     for lent, room in ((PLAN_LENT, ROOM), (3 * n, n * n), (3 * n, short_room), (one_less(3 * n), short_room)):
-        text += plan_line((log, worker, event), n, lent, room)
-    return text + "".join(covers_line(log, identifier) for identifier in IDENTIFIERS)
+        text += plan_line(case, n, lent, room)
+    return text + "".join(covers_line(case[0], identifier) for identifier in IDENTIFIERS)
 
 
 def begun(case, n):
@@ -187,13 +177,9 @@ def short_line(case, n, lent, room, w):
     return line + positions_after(n, after + positions[room:])
 
 
-def replay_lines(name, content):
-    worker, event = struct.unpack_from("<II", content)
-    log = content[8:]
-    case = (log, worker, event)
-    n = size(log)
+def replay_lines(case, n):
     number, plan, _ = begun(case, n)
-    text = name + "\nplan" + after_call(number, 3 * n, plan, PLAN_LENT)
+    text = "plan" + after_call(number, 3 * n, plan, PLAN_LENT)
     text += "".join(list_line(case, n, pattern) for pattern in range(4))
     for w in (0, one_less(n)):
         for by in (1, 65536, 4294967295):
@@ -202,3 +188,12 @@ def replay_lines(name, content):
     for lent, room, w in ((3 * n, n, 0), (one_less(3 * n), n, 0), (3 * n, one_less(n), 0), (one_less(3 * n), one_less(n), n)):
         text += short_line(case, n, lent, room, w)
     return text
+
+
+def case_lines(name, content):
+    """The name and the number that refuses the log, then the lines of each call."""
+    worker, event = struct.unpack_from("<II", content)
+    case = (content[8:], worker, event)
+    n = size(case[0])
+    first = "%s %d\n" % (name, reference.refusal(case[0]))
+    return first + causality_lines(case, n) + restore_lines(case, n) + replay_lines(case, n)

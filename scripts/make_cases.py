@@ -1,5 +1,5 @@
 #!/usr/bin/env python3
-"""Writes the case files of the programs that run stored cases, their arguments and their expected output.
+"""Writes the case files of the program `cases`, its arguments and its expected output.
 
     scripts/make_cases.py            write the files
     scripts/make_cases.py --check    fail if a stored file is not what would be written
@@ -13,38 +13,26 @@ import os
 import sys
 
 import reference
-from expected import IDENTIFIERS, accept_lines, causality_lines, replay_lines, restore_lines
+from expected import IDENTIFIERS, case_lines
 from logs import Worker, build, case_file, cut_to, extended, tube
 
-CRATES = os.path.join(os.path.dirname(os.path.abspath(__file__)), "..", "crates")
-
-# The crates that run cases, each with the lines of a case.
-LINES = {
-    "accept_cases": accept_lines,
-    "causality_cases": causality_lines,
-    "restore_cases": restore_lines,
-    "replay_cases": replay_lines,
-}
+CRATE = os.path.join(os.path.dirname(os.path.abspath(__file__)), "..", "crates", "cases")
 
 # The largest input of `plan`.
 LARGEST = 65536
 
-# The content of each case, by its name.
+# The content of each case, by its name, in the order in which they are run.
 CONTENT = {}
 
-# The names of the cases that a crate runs, in order.
-RUN = {crate: [] for crate in LINES}
 
-
-def case(name, number, log, worker=0, event=1, crate="accept_cases"):
-    """A case of a crate. Its log is refused by the number."""
+def case(name, number, log, worker=0, event=1):
+    """A case. Its log is refused by the number."""
     content = case_file(worker, event, log)
     assert name not in CONTENT, "two cases have the name " + name
     assert content not in CONTENT.values(), name + " has the bytes of another case"
     assert len(content) <= LARGEST, name + " is too long for an input of plan"
     assert reference.refusal(log) == number, "%s: %d by the reference" % (name, reference.refusal(log))
     CONTENT[name] = content
-    RUN[crate].append(name)
 
 
 # The log that most cases change in one place. It has 112 bytes: the header 48, events of worker 0 at 48, its checkpoint
@@ -351,36 +339,11 @@ case("4_5_6_and_7_at_once", 4, two(
 case("11_before_the_breakpoint", 11, two(second_checkpoints=[(1, 0)]), worker=2, event=0)
 
 
-# ---- Vector, lower cut, upper line and cut test: the cases of causality_cases. First those of above that it runs too.
-
-RUN["causality_cases"] += [
-    "tube_log",
-    "tube_log_receive_2_2_logged",
-    "a_send_received_twice",
-    "a_send_never_received",
-    "last_receive_names_a_smaller_send",
-    "sixty_four_workers_with_events",
-    "longest_input",
-    "two_workers_share_all_bytes",
-    # refused
-    "log_of_0_bytes",
-    "form_2",
-    "sixty_five_workers",
-    "one_byte_too_many",
-    "role_4",
-    "empty_events_inside_the_header",
-    "send_to_worker_n",
-    "equal_stamps_of_a_worker",
-    "receive_names_a_receive",
-    "equal_stamps_of_a_send_and_its_receive",
-    "11_before_the_breakpoint",
-    "header_is_the_log_of_1_worker",
-    "header_is_the_log_of_64_workers",
-]
+# ---- Accepted logs for the vector, the lower cut, the upper line and the cut test
 
 
 def cut_case(name, log, worker, event):
-    case(name, 0, log, worker, event, crate="causality_cases")
+    case(name, 0, log, worker, event)
 
 
 # Every breakpoint of the tube log but 0/2, which is the case tube_log.
@@ -508,38 +471,13 @@ cut_case("many_visits", build(many_visits(8, 8, 8)), 0, 8)
 assert len(reference.figure2(reference.read(CONTENT["many_visits"][8:]), 0, 8)[1]) == 1 + 8 + 8 * 8 + 8 * 8 * 8
 
 
-# ---- The plan and the covering sets: the cases of restore_cases. First those of above that it runs too.
-
-RUN["restore_cases"] += [name for name in RUN["causality_cases"] if name.startswith("tube_log")] + [
-    "two_workers_share_all_bytes",
-    "a_checkpoint_shares_bytes_with_an_event",
-    "sixty_four_workers_with_events",
-    "longest_input",
-    "checkpoint_count_1024",
-    "identifiers_in_each_byte",
-    "exchange_of_300_messages",
-    "many_visits",
-    # refused
-    "log_of_0_bytes",
-    "form_2",
-    "sixty_five_workers",
-    "one_byte_too_many",
-    "role_4",
-    "empty_events_inside_the_header",
-    "send_to_worker_n",
-    "equal_stamps_of_a_worker",
-    "receive_names_a_receive",
-    "equal_stamps_of_a_send_and_its_receive",
-    "11_before_the_breakpoint",
-    "header_is_the_log_of_1_worker",
-    "header_is_the_log_of_64_workers",
-]
+# ---- Accepted logs for the plan, the covering sets and the replay
 
 
 def plan_case(name, workers, worker, event, starts, identifiers=None, units=None, covering=(0,)):
-    """A case of restore_cases. Its starts and what else is given were worked out by hand; covering: those of IDENTIFIERS."""
+    """A case whose starts and what else is given were worked out by hand; covering: those of IDENTIFIERS."""
     log = workers if isinstance(workers, bytes) else build(workers)
-    case(name, 0, log, worker, event, crate="restore_cases")
+    case(name, 0, log, worker, event)
     _, _, _, found_units, _, words = reference.plan_call(log, worker, event, [0] * 192, 4096)
     n = len(starts)
     assert words[1:3 * n:3] == list(starts), "%s: starts %r by the reference" % (name, words[1:3 * n:3])
@@ -733,89 +671,51 @@ plan_case("one_receive_of_many_without_data", [
 ], 1, 30, (0, 13), [0, 2], covering=(0, 2))
 
 
-# ---- The replay machine: replay_cases runs cases of above, with lists of steps, changed words and short slices
-
-RUN["replay_cases"] += [name for name in RUN["restore_cases"] if name.startswith("tube_log")] + [
-    "two_workers_share_all_bytes",
-    "a_checkpoint_shares_bytes_with_an_event",
-    "checkpoint_count_1024",
-    "checkpoints_at_and_before_the_send",
-    "checkpoint_at_the_send_of_a_logged_receive",
-    "checkpoint_at_the_later_send",
-    "receive_past_the_cut",
-    "checkpoints_past_the_cut",
-    "no_checkpoints",
-    "half_of_64_lowered",
-    "all_of_5_lowered_in_mixed_order",
-    "lowered_no_time",
-    "kinds_mixed_all_logged",
-    "kinds_mixed_second_and_third_without_data",
-    "every_kind_in_every_role",
-    # refused
-    "log_of_0_bytes",
-    "form_2",
-    "sixty_five_workers",
-    "one_byte_too_many",
-    "role_4",
-    "empty_events_inside_the_header",
-    "send_to_worker_n",
-    "equal_stamps_of_a_worker",
-    "receive_names_a_receive",
-    "equal_stamps_of_a_send_and_its_receive",
-    "11_before_the_breakpoint",
-    "header_is_the_log_of_1_worker",
-    "header_is_the_log_of_64_workers",
-]
-
-
-def files(crate):
+def files():
     """The content of each file, by its path in the crate."""
-    made = {os.path.join("data", name): CONTENT[name] for name in RUN[crate]}
-    made["args"] = "".join(name + "\n" for name in RUN[crate]).encode()
-    made["stdout"] = "".join(LINES[crate](name, CONTENT[name]) for name in RUN[crate]).encode()
+    made = {os.path.join("data", name): content for name, content in CONTENT.items()}
+    made["args"] = "".join(name + "\n" for name in CONTENT).encode()
+    made["stdout"] = "".join(case_lines(name, content) for name, content in CONTENT.items()).encode()
     return made
 
 
-def stored(crate):
+def stored():
     """The files of the crate that this script writes, as they are."""
-    folder = os.path.join(CRATES, crate)
     paths = ["args", "stdout"]
-    if os.path.isdir(os.path.join(folder, "data")):
-        paths += [os.path.join("data", name) for name in os.listdir(os.path.join(folder, "data"))]
+    if os.path.isdir(os.path.join(CRATE, "data")):
+        paths += [os.path.join("data", name) for name in os.listdir(os.path.join(CRATE, "data"))]
     found = {}
     for path in paths:
-        if os.path.exists(os.path.join(folder, path)):
-            with open(os.path.join(folder, path), "rb") as file:
+        if os.path.exists(os.path.join(CRATE, path)):
+            with open(os.path.join(CRATE, path), "rb") as file:
                 found[path] = file.read()
     return found
 
 
-def check(crate):
+def check():
     """The number of files that are not as described."""
-    made, found = files(crate), stored(crate)
+    made, found = files(), stored()
     bad = sorted(path for path in set(made) | set(found) if made.get(path) != found.get(path))
     for path in bad:
-        print("not as described: crates/%s/%s" % (crate, path))
-    print("%s: %d cases, %d files not as described" % (crate, len(RUN[crate]), len(bad)))
+        print("not as described: crates/cases/" + path)
+    print("%d cases, %d files not as described" % (len(CONTENT), len(bad)))
     return len(bad)
 
 
-def write(crate):
-    made = files(crate)
-    folder = os.path.join(CRATES, crate)
-    for path in stored(crate):
+def write():
+    made = files()
+    for path in stored():
         if path not in made:
-            os.remove(os.path.join(folder, path))
-    os.makedirs(os.path.join(folder, "data"), exist_ok=True)
+            os.remove(os.path.join(CRATE, path))
+    os.makedirs(os.path.join(CRATE, "data"), exist_ok=True)
     for path, content in made.items():
-        with open(os.path.join(folder, path), "wb") as file:
+        with open(os.path.join(CRATE, path), "wb") as file:
             file.write(content)
-    print("%s: %d cases written" % (crate, len(RUN[crate])))
+    print("%d cases written" % len(CONTENT))
     return 0
 
 
 if __name__ == "__main__":
     if sys.argv[1:] not in ([], ["--check"]):
         sys.exit(__doc__)
-    made_or_checked = check if sys.argv[1:] else write
-    sys.exit(1 if sum([made_or_checked(crate) for crate in LINES]) else 0)
+    sys.exit(1 if (check if sys.argv[1:] else write)() else 0)
