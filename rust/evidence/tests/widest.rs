@@ -29,8 +29,22 @@ fn at_events(log: &[u8], worker: u32, events: &[u32]) {
 
 mod plans {
     use super::State;
-    use evidence::compare::{lower_cut, plan, steps, upper_line, Lengths};
+    use evidence::compare::{lower_cut, plan, steps, upper_line, vector, Lengths};
     use evidence::random::Random;
+
+    /// Compares the calls that are given an event, where it is none of the worker's: 13.
+    pub fn at_no_event(random: &mut Random, log: &[u8], worker: u32, event: u32) {
+        let n = usize::from(log[2]);
+        let lengths = Lengths {
+            words: 3 * n,
+            scratch: n * n,
+            totals: 4,
+        };
+        assert_eq!(vector(random, log, worker, event, n), 13);
+        assert_eq!(lower_cut(random, log, worker, event, lengths), 13);
+        assert_eq!(plan(random, log, worker, event, lengths), 13);
+        assert_eq!(upper_line(random, log, worker, event, n), 13);
+    }
 
     /// Compares the other calls at an event, and the replay of the whole plan as one list.
     pub fn at_event(random: &mut Random, log: &[u8], worker: u32, event: u32, state: &State) {
@@ -127,6 +141,9 @@ fn most_events_in_a_worker() {
     often(&log, 6, 10);
     at_events(&log, 0, &[1, 2, 65_534, 65_535]);
     at_events(&log, 1, &[1, 2, 50_001, 65_534, 65_535]);
+    for (worker, event) in [(0, 0), (0, 65_536), (1, 0), (1, 65_536)] {
+        plans::at_no_event(&mut Random::new(10), &log, worker, event);
+    }
 
     description.workers[0].events.push(Event::send(1, 70_000));
     let log = description.pack();
