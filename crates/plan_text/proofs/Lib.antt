@@ -3,3 +3,4 @@ pub mod Decimal
 pub mod Lines
 pub mod Enough
 pub mod Whole
+pub mod TubeText

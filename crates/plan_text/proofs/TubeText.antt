@@ -1,0 +1,46 @@
+-- The text that document 01, "The tube log", prints, computed from the input: worker 0, event 2, and the 212 bytes of the log.
+-- Assumes nothing.
+use mathlib.Core.Path.{_≡_, refl, _∙_}
+use mathlib.Core.List.{List, [], _∷_, _++_}
+use Prim.Native.Nat.{ℕ}
+use Rattle.ranges.specs.Fold.{anyBelow, maxBelow, sumBelow, firstBelow, lastBelow, tabulate, sweep}
+use Rattle.bytes_le.specs.Little.{le}
+use Rattle.log.specs.Model.{size, worker, roleOf, count, eventOf, checkpoints, checkpointOf, isSend, isUnlogged, isLogged, isReceive}
+use Rattle.log.specs.Layout.{logOf}
+use Rattle.accept.specs.Refusal.{orElse}
+use Rattle.accept.specs.Tube.{tube, tubeLog}
+use Rattle.accept.proofs.Tube.{tube-model, tube-accepted}
+use Rattle.causality.specs.Cut.{namedOf, component}
+use Rattle.causality.specs.Figure2.{turnIf, turn, visit, visitAt, beginning, figure2}
+use Rattle.causality.specs.Lent.{workerRefusal, eventRefusal, breakpointRefusal}
+use Rattle.causality.specs.Upper.{happened, upperAt, upperLine}
+use Rattle.causality.specs.Workers.{bitOf, workersWord}
+use Rattle.restore.specs.Choice.{mayChoose}
+use Rattle.restore.specs.Plan.{loses, workerLoses, lost, usable, indexIf, loweredAt, lowered, planStarts, standsAt, identifierOf, identifierAt, planWord, planWords}
+use Rattle.restore.specs.Words.{planCut, planStart}
+use Rattle.restore.specs.Cost.{replayed, eventsOf, eventUnits, workerUnits, unitsOf, builtIn}
+use Rattle.plan_text.specs.Text.{ascii, spelled, decimal, named, fourNamed, breakpointLine, processLine, processLines, foundText, textOf}
+use Rattle.plan_text.proofs.Enough.{accepted-text}
+
+abbrev tubeInput : List ℕ
+tubeInput = 0 ∷ 0 ∷ 0 ∷ 0 ∷ 2 ∷ 0 ∷ 0 ∷ 0 ∷ tube
+
+abbrev tubeText : List ℕ
+tubeText =
+    ascii "breakpoint 0 2\n"
+    ++ ascii "process 0 role 3 cut 2 upper 2 start 1 checkpoint 1\n"
+    ++ ascii "process 1 role 1 cut 3 upper 3 start 1 checkpoint 1\n"
+    ++ ascii "process 2 role 0 cut 2 upper 3 start 0 checkpoint 0\n"
+    ++ ascii "visits 3 events 5 units 15 workers 7\n"
+
+computed : foundText tubeLog 0 2 ≡ tubeText
+unfolding anyBelow maxBelow sumBelow firstBelow lastBelow tabulate sweep size worker roleOf count eventOf checkpoints checkpointOf isSend isUnlogged isLogged isReceive namedOf component turnIf turn visit visitAt beginning figure2 happened upperAt upperLine bitOf workersWord mayChoose loses workerLoses lost usable indexIf loweredAt lowered planStarts standsAt identifierOf identifierAt planWord planWords planCut planStart replayed eventsOf eventUnits workerUnits unitsOf builtIn spelled decimal named fourNamed breakpointLine processLine processLines foundText
+computed = refl
+
+accepted : breakpointRefusal tube 0 2 ≡ 0
+unfolding breakpointRefusal orElse workerRefusal eventRefusal size worker count
+accepted = rw (tube-accepted, tube-model)
+
+pub tube-text : textOf tubeInput ≡ tubeText
+unfolding textOf le
+tube-text = accepted-text tube 0 2 accepted ∙ rw tube-model computed
