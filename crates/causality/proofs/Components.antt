@@ -1,7 +1,7 @@
 -- The components of an event's dependency vector: where one is above 0 for another worker, a receive up to the event names it, and
 -- it is an event with a smaller stamp. Assumes nothing.
 use mathlib.Core.Path.{_≡_, refl}
-use mathlib.Core.Logic.{⊎-elim, _≢_}
+use mathlib.Core.Logic.{_≢_}
 use mathlib.Core.Bool.{Bool, true, false, cond, _&&_}
 use Prim.Native.Nat.{ℕ, _+_, _<_, _≤_}
 use native.Mathlib.Omega.{arith}
@@ -9,7 +9,6 @@ use borrow.Author.Tests.{eq-eqb, ne-eqb, eqb-true}
 use lib.Dec.{eqb}
 use Rattle.ranges.specs.Fold.{maxBelow}
 use Rattle.ranges.proofs.Max.{max-each, max-some}
-use Rattle.ranges.proofs.Order.{lt-or-le, eq-or-ne}
 use Rattle.log.specs.Model.{Log, count, eventOf, isReceive}
 use Rattle.accept.specs.WellFormed.{WellFormed}
 use Rattle.causality.specs.Happened.{HappenedBefore, message}
@@ -74,10 +73,3 @@ module _ (log : Log) (ok : WellFormed log) where
   component-rises i e v bound other h =
       let by = component-named log i e v other h in
       happened-rises log ok (named-happened i e v (component log i e v) (by .0) bound (by .1))
-
-  -- no component is above its worker's event count
-  pub component-within : (i e v : ℕ) → e ≤ count log i → component log i e v ≤ count log v
-  component-within i e v bound =
-      ⊎-elim (λ q. rw q (rw (component-own log i e) bound))
-      (λ other. ⊎-elim (λ h. component-rises i e v bound other h .first .1) (λ z. omega arith) (lt-or-le 0 (component log i e v)))
-      (eq-or-ne v i)

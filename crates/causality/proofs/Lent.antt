@@ -39,10 +39,6 @@ module _ (log : Log) where
       let positive = eqb-false x 0 (or-false-left none past tested) in
       (omega (arith, positive), ltb-false _ _ (or-false-right none past tested))
 
-  pub scratch-ok : (lent : ℕ) → scratchRefusal log lent ≡ 0 → size log * size log ≤ lent
-  unfolding scratchRefusal
-  scratch-ok lent e = ltb-false _ _ (peel (ltb lent (size log * size log)) 14 0 e .0)
-
 pub words-ok : (lent needed : ℕ) → wordsRefusal lent needed ≡ 0 → needed ≤ lent
 unfolding wordsRefusal
 words-ok lent needed e = ltb-false _ _ (peel (ltb lent needed) 13 0 e .0)

@@ -19,8 +19,6 @@ use Rattle.causality.specs.Calls.{lineRefusal, lowerRefusal, testRefusal, refus
 use Rattle.restore.specs.declared.Totals.{Totals}
 use Rattle.restore.specs.Plan.{planWords}
 use Rattle.restore.specs.Calls.{planRefusal, refusedPlan, foundPlan, planAnswer, planWordsAfter}
-use Rattle.accept.proofs.Accepted.{or-else-zero}
-use Rattle.causality.proofs.Lent.{breakpoint-accepted}
 use Rattle.planner.specs.Calls.{lowerRefused, lowerTotals, planRefused, planTotals, testRefused, coversRefused, wordOf}
 
 -- ---- lent words that are enough, and too few
@@ -169,8 +167,3 @@ answered number result b lent left test is result-is left-is = rw (result-is, is
     go : (t : Bool) → cond t (onto (wordOf (cond t b false) ∷ []) lent) lent ≡ cond t (onto (wordOf b ∷ []) lent) lent
     go true = refl
     go false = refl
-
--- a plan that is not refused is of an accepted log
-pub plan-accepted : (s : List ℕ) (w e words scratch totals : ℕ) → planRefused s w e words scratch totals ≡ 0 → refusal s ≡ 0
-unfolding planRefused
-plan-accepted s w e words scratch totals none = breakpoint-accepted s w e (or-else-zero (breakpointRefusal s w e) _ none .0)

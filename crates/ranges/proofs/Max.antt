@@ -1,6 +1,6 @@
 -- Laws of `maxBelow`. Assumes nothing.
-use mathlib.Core.Path.{_≡_, refl, _∙_, sym, ap}
-use mathlib.Core.Logic.{_⊎_, inl, inr, ⊎-elim}
+use mathlib.Core.Path.{_≡_, refl, ap}
+use mathlib.Core.Logic.{⊎-elim}
 use Prim.Native.Nat.{ℕ, zero, suc, _+_, _<_, _≤_, max}
 use native.Mathlib.Nat.{not-suc-le-zero, eq-or-lt-of-le, le-of-suc-le-suc}
 use native.Mathlib.Numerals.{add-one}
@@ -40,9 +40,6 @@ module _ (f : ℕ → ℕ) where
       go below =
           ⊎-elim (λ l. let w = below (omega arith) in (w .0, omega arith, omega (arith, w .2))) (λ l. (n, omega arith, omega arith))
           (lt-or-le (f n) (maxBelow f n))
-
-  pub max-grows : (m n : ℕ) → m ≤ n → maxBelow f m ≤ maxBelow f n
-  max-grows m n h = max-least m (maxBelow f n) (λ k l. max-each n k (omega arith))
 
 pub max-same : (f g : ℕ → ℕ) (n : ℕ) → ((k : ℕ) → k < n → f k ≡ g k) → maxBelow f n ≡ maxBelow g n
 unfolding maxBelow

@@ -23,7 +23,7 @@ use Rattle.accept.specs.Refusal.{orElse, refusal}
 use Rattle.accept.proofs.Accepted.{or-else-zero, well-formed}
 use Rattle.causality.specs.Cut.{at, IsCut, Within}
 use Rattle.causality.specs.Lent.{workerRefusal, wordsRefusal}
-use Rattle.causality.proofs.Lent.{worker-ok, words-ok}
+use Rattle.causality.proofs.Lent.{words-ok}
 use Rattle.restore.specs.Plan.{planStarts, planWord, planWords}
 use Rattle.replay.specs.Machine.{Step, answerOf, movedBy, moved, stepOf, run}
 use Rattle.restore.specs.Words.{planCut, planStart, cutsIn, startsIn}
@@ -59,11 +59,8 @@ module _ (s plan positions : List ℕ) (w : ℕ) (none : stepRefusal s plan posi
       let third = or-else-zero (stateRefusal (logOf s) (length plan) (length positions)) (orderRefusal (logOf s) plan positions) (second .1) in
       (first .0, second .0, third .0, third .1)
 
-  -- a step that is not refused by what it is lent: its worker is one of the log's
-  pub step-worker : w < size (logOf s)
-  step-worker = worker-ok (logOf s) w (passed .1)
-
-  -- .. the log is accepted, the words are enough, and every position stands between its start and its cut
+  -- a step that is not refused by what it is lent: the log is accepted, the words are enough, and every position stands between its start
+  -- and its cut
   pub step-state : IsState s plan positions
   unfolding stateRefusal orderRefusal
   step-state =

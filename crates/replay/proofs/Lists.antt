@@ -7,7 +7,7 @@ use native.Mathlib.Nat.{not-suc-le-zero}
 use native.Mathlib.Omega.{arith}
 use lib.ListN.{length, getD, take}
 use Rattle.log.specs.Model.{Log}
-use Rattle.replay.specs.Machine.{Step, answerOf, moved, stepOf, run, after, doneIf, doneIn}
+use Rattle.replay.specs.Machine.{Step, moved, stepOf, run, after}
 use Rattle.replay.proofs.Steps.{Between, moved-between}
 
 -- the last of a list with a first element
@@ -15,12 +15,6 @@ last-cons : {A : Type 0} (a d : A) (l : List A) → getLastD (a ∷ l) d ≡ get
 unfolding getLastD
 last-cons a d [] = refl
 last-cons a d (b ∷ l) = refl
-
--- the steps done in two lists
-pub done-append : (a b : List Step) → doneIn (a ++ b) ≡ doneIn a + doneIn b
-unfolding doneIn
-done-append [] b = omega arith
-done-append (s ∷ a) b = let rest = done-append a b in omega arith
 
 module _ (log : Log) (cut starts : List ℕ) where
   -- every list of steps keeps the positions between the starts and the cut
@@ -58,17 +52,12 @@ module _ (log : Log) (cut starts : List ℕ) where
   after-append positions [] b = refl
   after-append positions (w ∷ a) b = after-append (moved log cut starts positions w) a b
 
-  -- .. its steps
+  -- .. and its steps
   pub run-append : (positions a b : List ℕ)
       → run log cut starts positions (a ++ b) ≡ run log cut starts positions a ++ run log cut starts (after log cut starts positions a) b
   unfolding run after
   run-append positions [] b = refl
   run-append positions (w ∷ a) b = ap (λ (l : List Step). stepOf log cut starts positions w ∷ l) (run-append (moved log cut starts positions w) a b)
-
-  -- .. and its steps done
-  pub done-run-append : (positions a b : List ℕ)
-      → doneIn (run log cut starts positions (a ++ b)) ≡ doneIn (run log cut starts positions a) + doneIn (run log cut starts (after log cut starts positions a) b)
-  done-run-append positions a b = rw (run-append positions a b) (done-append (run log cut starts positions a) (run log cut starts (after log cut starts positions a) b))
 
   -- one more worker at the end: the positions
   pub after-more : (positions workers : List ℕ) (w : ℕ)
@@ -76,16 +65,9 @@ module _ (log : Log) (cut starts : List ℕ) where
   unfolding after
   after-more positions workers w = after-append positions workers (w ∷ [])
 
-  -- .. the steps
+  -- .. and the steps
   pub run-more : (positions workers : List ℕ) (w : ℕ)
       → run log cut starts positions (workers ++ (w ∷ []))
       ≡ run log cut starts positions workers ++ (stepOf log cut starts (after log cut starts positions workers) w ∷ [])
   unfolding run
   run-more positions workers w = run-append positions workers (w ∷ [])
-
-  -- .. and the steps done
-  pub done-more : (positions workers : List ℕ) (w : ℕ)
-      → doneIn (run log cut starts positions (workers ++ (w ∷ [])))
-      ≡ doneIn (run log cut starts positions workers) + doneIf (answerOf log cut starts (after log cut starts positions workers) w)
-  unfolding run doneIn stepOf
-  done-more positions workers w = let e = done-run-append positions workers (w ∷ []) in omega arith
