@@ -1,7 +1,7 @@
 -- What an accepted log says of an event that was read, whatever its kind: a send names event 0, so the kind need not be asked for.
 -- Assumes nothing.
 use mathlib.Core.Path.{_≡_, refl, sym, _∙_}
-use mathlib.Core.Bool.{Bool, true, false, _&&_, _||_, false≢true}
+use mathlib.Core.Bool.{Bool, true, false, _&&_, _||_, false≢true, and-false}
 use mathlib.Core.Logic.{⊎-elim, _≢_}
 use mathlib.Core.List.{List}
 use Prim.Native.Nat.{ℕ, _+_, _<_, max}
@@ -19,10 +19,6 @@ use Rattle.accept.proofs.Accepted.{well-formed}
 use Rattle.causality.specs.Cut.{at, lacks}
 use Rattle.causality.specs.Row.{noted}
 use Rattle.causality.specs.Raising.{blocked}
-
-none : (b : Bool) → (b && false) ≡ false
-none true = refl
-none false = refl
 
 -- event k + 1 of worker w
 module _ (s : List ℕ) (accepted : refusal s ≡ 0) (w k : ℕ) (e : Event) (q : e ≡ eventOf (logOf s) w (k + 1)) (h : k < count (logOf s) w) where
@@ -66,4 +62,4 @@ module _ (s : List ℕ) (accepted : refusal s ≡ 0) (w k : ℕ) (e : Event) (q 
       go true r = rw r
       go false r =
           let other : 0 ≢ event = omega arith in
-          rw (r, names-none r, le-ltb (at line (e .peer)) 0 (omega arith), ne-eqb 0 event other) (none (eqb (e .peer) i))
+          rw (r, names-none r, le-ltb (at line (e .peer)) 0 (omega arith), ne-eqb 0 event other) (and-false (eqb (e .peer) i))

@@ -1,41 +1,32 @@
 -- A text that is put byte by byte into lent bytes.
 -- Assumes nothing.
-use mathlib.Core.Path.{_≡_, refl, sym, _∙_, ap}
+use mathlib.Core.Path.{_≡_, sym, _∙_, ap}
 use mathlib.Core.List.{List, [], _∷_, _++_, append-assoc, append-nil}
-use Prim.Native.Nat.{ℕ, zero, suc, _+_, _<_, _≤_}
-use native.Mathlib.Nat.{not-suc-le-zero, le-of-suc-le-suc}
+use Prim.Native.Nat.{ℕ, suc, _+_, _<_, _≤_}
 use native.Mathlib.Numerals.{add-one}
 use native.Mathlib.Omega.{arith}
-use lib.ListN.{length, take, drop, set, getD, length-append}
-use lib.Seq.{length-front, take-nil, take-suc, drop-cons, append-snoc, set-append-seam}
+use lib.ListN.{length, take, drop, set, getD, length-append, length-take}
+use lib.Seq.{length-front, length-take-le, take-nil, take-all, take-append-le, take-suc, drop-cons, append-snoc, set-append-seam}
 use Rattle.causality.specs.Lent.{onto}
 use Rattle.plan_text.specs.Buffer.{room, Holds, Adds}
 
--- ---- the first n bytes of a text with one byte more
+-- ---- the first n bytes of a text with one byte more: there is room for it, or not
 keep-more : (n : ℕ) (text : List ℕ) (b : ℕ) → length (take n text) < n → take n (text ++ (b ∷ [])) ≡ take n text ++ (b ∷ [])
-keep-more zero text b h = absurd (not-suc-le-zero h)
-keep-more (suc n) [] b h = ap (λ (r : List ℕ). b ∷ r) (take-nil n)
-keep-more (suc n) (x ∷ xs) b h = ap (λ (r : List ℕ). x ∷ r) (keep-more n xs b (le-of-suc-le-suc h))
+keep-more n text b h =
+    let kept = length-take n text in
+    let longer = length-append text (b ∷ []) in
+    take-all n (text ++ (b ∷ [])) (omega arith) ∙ ap (λ (t : List ℕ). t ++ (b ∷ [])) (sym (take-all n text (omega arith)))
 
 keep-full : (n : ℕ) (text : List ℕ) (b : ℕ) → n ≤ length (take n text) → take n (text ++ (b ∷ [])) ≡ take n text
-keep-full zero text b h = refl
-keep-full (suc n) [] b h = absurd (not-suc-le-zero h)
-keep-full (suc n) (x ∷ xs) b h = ap (λ (r : List ℕ). x ∷ r) (keep-full n xs b (le-of-suc-le-suc h))
+keep-full n text b h = let kept = length-take n text in take-append-le n text (b ∷ []) (omega arith)
 
 -- ---- the bytes that hold a text
 take-short : (n : ℕ) (text : List ℕ) → length (take n text) ≤ n
-take-short zero text = omega arith
-take-short (suc n) [] = omega arith
-take-short (suc n) (x ∷ xs) = let h = take-short n xs in omega arith
+take-short n text = let kept = length-take n text in omega arith
 
 pub length-onto : (lent new : List ℕ) → length new ≤ length lent → length (onto new lent) ≡ length lent
 unfolding onto
-length-onto lent new h = length-front lent new (length new) (sym (length-taken lent new h))
-  where
-    length-taken : (lent new : List ℕ) → length new ≤ length lent → length (take (length new) lent) ≡ length new
-    length-taken lent [] h = refl
-    length-taken [] (x ∷ xs) h = absurd (not-suc-le-zero h)
-    length-taken (y ∷ ys) (x ∷ xs) h = ap suc (length-taken ys xs (le-of-suc-le-suc h))
+length-onto lent new h = length-front lent new (length new) (sym (length-take-le (length new) lent h))
 
 holds-length : (lent text bytes : List ℕ) (at : ℕ) → Holds lent text bytes at → length bytes ≡ length lent
 holds-length lent text bytes at h = rw (h .bytes) (length-onto lent (room lent text) (take-short (length lent) text))
