@@ -1,7 +1,7 @@
 -- The call `step` and the machine: what a step that is not refused is given, and that every list of step calls is the machine's run.
 -- Assumes nothing.
 use mathlib.Core.Path.{_≡_, refl, ap}
-use mathlib.Core.Bool.{true, false, _&&_}
+use mathlib.Core.Bool.{false, _&&_}
 use mathlib.Core.Logic.{⊎-elim, _≢_}
 use mathlib.Core.List.{List, [], _∷_}
 use Prim.Native.Nat.{ℕ, _*_, _<_, _≤_}
@@ -15,9 +15,8 @@ use Rattle.ranges.proofs.Any.{any-each, any-every}
 use Rattle.ranges.proofs.Bools.{and-true-left, and-true-right}
 use Rattle.ranges.proofs.Order.{lt-or-le, eq-or-ne}
 use Rattle.ranges.proofs.Tabulate.{length-tabulate}
-use Rattle.log.specs.declared.Event.{Event}
 use Rattle.log.specs.Layout.{logOf}
-use Rattle.log.specs.Model.{Log, size, count, eventOf, isUnlogged, isReceive}
+use Rattle.log.specs.Model.{Log, size, count}
 use Rattle.log.proofs.Readable.{peel}
 use Rattle.accept.specs.Refusal.{orElse, refusal}
 use Rattle.accept.proofs.Accepted.{or-else-zero, well-formed}
@@ -153,13 +152,6 @@ calls-run s plan positions (w ∷ workers) state =
     rw (step-answer s plan positions state w, step-positions s plan positions state w)
     (ap (λ (l : List Step). stepOf (logOf s) (cutsIn plan (size (logOf s))) (startsIn plan (size (logOf s))) positions w ∷ l)
     (calls-run s plan (machinePositions s plan positions w) workers (moved-state s plan positions state w)))
-
--- a kind 2 receive names one of the log's workers
-pub peer-within : (s : List ℕ) → refusal s ≡ 0 → (w x : ℕ) (e : Event) → e ≡ eventOf (logOf s) w x → isUnlogged e ≡ true → e .peer < size (logOf s)
-unfolding isReceive
-peer-within s accepted w x e is unlogged =
-    let there : isUnlogged (eventOf (logOf s) w x) ≡ true = rw (← is) unlogged in
-    rw is (well-formed s accepted .sent w x (rw there) .within)
 
 module _ (s cut : List ℕ) (accepted : refusal s ≡ 0) (isCut : IsCut (logOf s) cut) (long : length (planStarts (logOf s) cut) ≡ size (logOf s)) (within : Within (planStarts (logOf s) cut) cut) where
   -- the words of a plan, with its starts for positions, are given to a step that is not refused

@@ -1,5 +1,5 @@
 -- `replay::answer` meets its contract. Assumes nothing.
-use mathlib.Core.Path.{_≡_, sym, _∙_}
+use mathlib.Core.Path.{_≡_}
 use Prim.Native.Nat.{_<_}
 use Rattle.log.specs.Layout.{logOf}
 use Rattle.log.specs.Model.{size}
@@ -10,7 +10,7 @@ use Rattle.replay.specs.Machine.{receiveAnswer, eventAnswer, answerOf}
 use Rattle.restore.specs.Words.{planCut, planStart, startsIn}
 use Rattle.replay.specs.Calls.{machineAnswer}
 use Rattle.replay.proofs.Words.{at-cuts, at-starts}
-use Rattle.replay.proofs.Call.{peer-within}
+use Rattle.causality.proofs.Peers.{peer-within}
 use borrow.Author.Needs.{needs}
 use Rattle.replay.proofs.answer.Statement.{statement}
 use Rattle.replay.proofs.answer.Tie as tie
@@ -67,10 +67,12 @@ returns-3 : tie.Need-returns-3
 unfolding eventAnswer
 returns-3 c = rw (next (c .before .before), ← c .before .is-unlogged .ensures, not-true (c .before .is-unlogged .result) (c .if3 .taken))
 
--- the sender of a kind 2 receive is one of the log's workers
+-- the event's peer is one of the log's workers
 peer : (c : tie.Else3) → c .before .before .event-at .result .peer < size (logOf (c .before .before .before .before .before .before .before .before .before .before .before .args .log .now))
+unfolding planCut
 peer c =
-    peer-within _ (c .before .before .before .before .before .before .before .before .before .before .before .pre .accepted) _ _ _ (c .before .before .event-at .ensures) (sym (c .before .is-unlogged .ensures) ∙ not-false (c .before .is-unlogged .result) (c .if3 .left))
+    let order = c .before .before .before .before .before .before .before .before .before .before .before .pre .ordered (c .before .before .before .before .before .before .before .before .before .before .before .args .w) (worker (c .before .before .before .before .before .before)) in
+    peer-within _ (c .before .before .before .before .before .before .before .before .before .before .before .pre .accepted) _ _ _ (c .before .before .event-at .ensures) (omega (arith, order, c .before .before .before .if2 .left))
 
 cast-peer : tie.Need-cast-peer
 cast-peer c = search needs
