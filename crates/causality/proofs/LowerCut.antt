@@ -19,7 +19,7 @@ use Rattle.causality.specs.Cut.{at, component, IsCut, Consistent, IsLowe
 use Rattle.causality.specs.Figure2.{Found, counted, stored, turn, visit, visitAt, beginning, figure2, lowerCut}
 use Rattle.causality.proofs.Order.{Rising, happened-rises, happened-from, index-less, consistent-holds}
 use Rattle.causality.proofs.Components.{component-covers}
-use Rattle.causality.proofs.Recursion.{Ready, Grown, grown-same, grown-through, grown-set, grown-ready, Raised, turn-cases, raised-ready}
+use Rattle.causality.proofs.Recursion.{Ready, Grown, grown-same, grown-through, grown-set, grown-ready, AboveCut, turn-cases, raised-ready}
 
 -- event x of worker w happened before event e of worker i, and its vector is within the cut
 pub record Settled (log : Log) (i e : ℕ) (cut : List ℕ) (w x : ℕ) : Type 0 where
@@ -49,7 +49,7 @@ module _ (log : Log) (ok : WellFormed log) where
       }
 
   -- one turn that stores: `u` is the state after the visit to the stored component
-  visited-more : (i e k : ℕ) (cut t u : List ℕ) → k < size log → Ready log i e t → Raised log i e k t
+  visited-more : (i e k : ℕ) (cut t u : List ℕ) → k < size log → Ready log i e t → AboveCut log i e k t
       → Visited log i e k cut t → Visited log k (component log i e k) (size log) (set t k (component log i e k)) u → Visited log i e (suc k) cut u
   visited-more i e k cut t u h ready raised before now =
       record {

@@ -49,7 +49,7 @@ pub grown-ready : {log : Log} {i e : ℕ} {cut later : List ℕ} → Ready log i
 grown-ready {i} r g = record { long = g .long ∙ r .long; holds = omega (arith, r .holds, g .grows i) }
 
 -- worker v's component of event e of worker i is above the cut's: a receive of i names it, and it happened before
-pub record Raised (log : Log) (i e v : ℕ) (cut : List ℕ) : Type 0 where
+pub record AboveCut (log : Log) (i e v : ℕ) (cut : List ℕ) : Type 0 where
   pub above : at cut v < component log i e v
   pub receive : ℕ
   pub named : NamedBy log i e v (component log i e v) receive
@@ -84,7 +84,7 @@ module _ (log : Log) (ok : WellFormed log) where
   -- worker v's turn: its component is within the cut and nothing is done, or it is stored and visited
   pub turn-cases : (i e v : ℕ) (t : Found) → IsEvent log i e → Ready log i e (t .cut)
       → ((component log i e v ≤ at (t .cut) v) × ((go : ℕ → ℕ → Found → Found) → turn go log i e v t ≡ t))
-      ⊎ (Raised log i e v (t .cut) × ((go : ℕ → ℕ → Found → Found) → turn go log i e v t ≡ go v (component log i e v) (stored t v (component log i e v))))
+      ⊎ (AboveCut log i e v (t .cut) × ((go : ℕ → ℕ → Found → Found) → turn go log i e v t ≡ go v (component log i e v) (stored t v (component log i e v))))
   unfolding turn turnIf
   turn-cases i e v t event ready = test (ltb (at (t .cut) v) (component log i e v)) refl
     where
@@ -95,14 +95,14 @@ module _ (log : Log) (ok : WellFormed log) where
           let word : at (t .cut) v ≡ at (t .cut) i = ap (at (t .cut)) q in
           omega (arith, ready .holds)
 
-      raised : at (t .cut) v < component log i e v → Raised log i e v (t .cut)
+      raised : at (t .cut) v < component log i e v → AboveCut log i e v (t .cut)
       raised less =
           let by = component-named log i e v (other less) (omega arith) in
           record { above = less; receive = by .0; named = by .1; happened = named-happened log ok i e v (component log i e v) (by .0) (event .1) (by .1) }
 
       test : (b : Bool) → ltb (at (t .cut) v) (component log i e v) ≡ b
           → ((component log i e v ≤ at (t .cut) v) × ((go : ℕ → ℕ → Found → Found) → turnIf b go v (component log i e v) t ≡ t))
-          ⊎ (Raised log i e v (t .cut) × ((go : ℕ → ℕ → Found → Found) → turnIf b go v (component log i e v) t ≡ go v (component log i e v) (stored t v (component log i e v))))
+          ⊎ (AboveCut log i e v (t .cut) × ((go : ℕ → ℕ → Found → Found) → turnIf b go v (component log i e v) t ≡ go v (component log i e v) (stored t v (component log i e v))))
       test true q = inr (raised (ltb-true (at (t .cut) v) (component log i e v) q), λ go. refl)
       test false q = inl (ltb-false (at (t .cut) v) (component log i e v) q, λ go. refl)
 

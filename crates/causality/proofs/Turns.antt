@@ -24,7 +24,7 @@ use Rattle.causality.specs.Visiting.{wordSum, Visiting}
 use Rattle.accept.proofs.Stamps.{stamps-rise}
 use Rattle.causality.proofs.Order.{Rising, index-less, happened-rises}
 use Rattle.causality.proofs.Components.{component-own, component-other, named-from, component-rises}
-use Rattle.causality.proofs.Recursion.{Ready, grown-ready, Raised, turn-cases, visit-equation}
+use Rattle.causality.proofs.Recursion.{Ready, grown-ready, AboveCut, turn-cases, visit-equation}
 use Rattle.causality.proofs.LowerCut.{Visited, turns-visited, visitAt-visited, visited-cut, beginning-words, beginning-cut}
 use Rattle.causality.proofs.VisitCount.{words-raise, turns-visits}
 use Rattle.causality.proofs.Row.{after-within, component-split}
@@ -116,7 +116,7 @@ module _ (log : Log) (ok : WellFormed log) (i from e : ℕ) (cut : List ℕ) (vi
         rising : Rising log v d i e
         rising = rw found at (component-rises log ok i e v (pre .event .1) another (let f = found in omega arith))
 
-        raised : Raised log i e v (t .cut)
+        raised : AboveCut log i e v (t .cut)
         raised =
             ⊎-elim (λ c. let f = found in let no : ⊥ = omega (arith, c .0) in absurd no) (λ c. c .0) (turn-cases log ok i e v t (pre .event) ready)
 

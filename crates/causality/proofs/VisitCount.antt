@@ -22,13 +22,13 @@ use Rattle.causality.specs.Cut.{at, component, IsCut, Consistent, receiv
 use Rattle.causality.specs.Figure2.{Found, counted, stored, turn, visit, visitAt, beginning, figure2, lowerCut}
 use Rattle.causality.specs.Visiting.{wordSum}
 use Rattle.causality.proofs.Order.{happened-rises, consistent-holds}
-use Rattle.causality.proofs.Recursion.{Ready, Grown, grown-set, grown-ready, Raised, turn-cases, turn-grows, raised-ready, visit-grows, visitAt-grows}
+use Rattle.causality.proofs.Recursion.{Ready, Grown, grown-set, grown-ready, AboveCut, turn-cases, turn-grows, raised-ready, visit-grows, visitAt-grows}
 use Rattle.causality.proofs.LowerCut.{beginning-ready, lower-is}
 
 -- a measure of the cut that each store of a visit raises, while the visited events have H
 abbrev pub Raises : Log → (List ℕ → ℕ) → (ℕ → ℕ → Type 0) → Type 0
 Raises log measure H =
-    (i e v : ℕ) (cut : List ℕ) → IsEvent log i e → Ready log i e cut → v < size log → H i e → Raised log i e v cut
+    (i e v : ℕ) (cut : List ℕ) → IsEvent log i e → Ready log i e cut → v < size log → H i e → AboveCut log i e v cut
     → (measure cut < measure (set cut v (component log i e v))) × H v (component log i e v)
 
 -- visits that a measure bounds: at most one more than the measure rises
