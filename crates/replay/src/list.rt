@@ -190,13 +190,7 @@ pub fn restore_and_replay(
         scratch.len(),
     );
     if number != 0 {
-        return Totals {
-            refusal: number,
-            visits: 0,
-            events: 0,
-            units: 0,
-            workers: 0,
-        };
+        return restore::refused(number);
     }
     let totals = restore::plan(log, worker, event, words, scratch);
     let n = log::size_of(log);

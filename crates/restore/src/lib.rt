@@ -21,7 +21,7 @@ ghost use Rattle.restore.specs.Covering.{missing, setIndex, coveringSet}
 ghost use Rattle.restore.specs.Lowering.{planNumber, numberBelow, placed, resent, pending, Lowering, Looked, Settled, finished};
 ghost use Rattle.restore.specs.Held.{IsHeld, heldCut, heldStarts, firstSet, unloggedIn, workerUnloggedIn};
 ghost use Rattle.causality.specs.Calls.{foundCut};
-ghost use Rattle.restore.specs.Calls.{planRefusal, foundPlan, planAnswer, planWordsAfter, coversAnswer};
+ghost use Rattle.restore.specs.Calls.{planRefusal, refusedPlan, foundPlan, planAnswer, planWordsAfter, coversAnswer};
 
 // The units of an event: a row for each role, in it a send, a receive without its data, a receive with it.
 const UNITS: [[u64; 3]; 4] = [[2, 3, 5], [2, 4, 6], [3, 8, 9], [2, 5, 7]];
@@ -453,19 +453,26 @@ fn plan_found(log: &[u8], i: usize, event: u32, words: &mut [u32], scratch: &mut
     }
 }
 
+// What a refused plan returns.
+pub fn refused(number: u32) -> Totals
+    ensures { λ r. ⌜ r ≡ refusedPlan number ⌝ }
+{
+    Totals {
+        refusal: number,
+        visits: 0,
+        events: 0,
+        units: 0,
+        workers: 0,
+    }
+}
+
 // The plan: the cut, the start and the identifier of each worker, for event `event` of worker `worker`.
 pub fn plan(log: &[u8], worker: u32, event: u32, words: &mut [u32], scratch: &mut [u32]) -> Totals
     ensures { λ r. ⌜ (r ≡ planAnswer (now (log .entry)) worker event (now (words .entry)) (now (scratch .entry))) × (now (words .exit) ≡ planWordsAfter (now (log .entry)) worker event (now (words .entry)) (now (scratch .entry))) × (planRefusal (now (log .entry)) worker event (length (now (words .entry))) (length (now (scratch .entry))) ≢ 0 → now (scratch .exit) ≡ now (scratch .entry)) ⌝ }
 {
     let number = plan_refusal(log, worker, event, words.len(), scratch.len());
     if number != 0 {
-        return Totals {
-            refusal: number,
-            visits: 0,
-            events: 0,
-            units: 0,
-            workers: 0,
-        };
+        return refused(number);
     }
     let n = log::size_of(log);
     let all = 3 * n;

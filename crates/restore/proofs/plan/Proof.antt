@@ -15,9 +15,12 @@ use Rattle.restore.proofs.plan.Tie as tie
 plan-refusal-requires : tie.Need-plan-refusal-requires
 plan-refusal-requires c κs = search needs
 
+refused-requires : tie.Need-refused-requires
+refused-requires c κs = search needs
+
 returns : tie.Need-returns
-unfolding planAnswer refusedPlan planWordsAfter unlessRefused
-returns c = rw (← c .before .plan-refusal .ensures, ne-eqb _ _ (c .if1 .taken)) (refl, refl, λ no. refl)
+unfolding planAnswer planWordsAfter unlessRefused
+returns c = rw (← c .before .before .plan-refusal .ensures, ne-eqb _ _ (c .before .if1 .taken)) (c .refused .ensures, refl, λ no. refl)
 
 size-of-requires : tie.Need-size-of-requires
 size-of-requires c κs = accepted-layout _ (allowed _ _ _ _ _ (sym (c .before .plan-refusal .ensures) ∙ c .if1 .left) .accepted)
@@ -55,6 +58,7 @@ plan-spec =
     tie.close
     (tie.spec
     plan-refusal-requires
+    refused-requires
     returns
     size-of-requires
     mul-all

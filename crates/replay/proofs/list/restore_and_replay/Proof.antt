@@ -5,7 +5,6 @@ use native.Mathlib.Omega.{arith}
 use lib.ListN.{length-take}
 use lib.Seq.{length-take-le}
 use Rattle.accept.proofs.Accepted.{accepted-layout}
-use Rattle.restore.specs.Calls.{refusedPlan}
 use Rattle.replay.proofs.Restored.{restore-lent, refused-restored, restored, planned-totals, planned-words, plan-ready, front-words, front-positions, front-steps}
 use borrow.Author.Needs.{needs}
 use Rattle.replay.proofs.list.restore_and_replay.Statement.{statement}
@@ -14,9 +13,11 @@ use Rattle.replay.proofs.list.restore_and_replay.Tie as tie
 list-refusal-requires : tie.Need-list-refusal-requires
 list-refusal-requires c κs = search needs
 
+refused-requires : tie.Need-refused-requires
+refused-requires c κs = search needs
+
 returns : tie.Need-returns
-unfolding refusedPlan
-returns c = rw (← c .before .list-refusal .ensures) (refused-restored _ _ _ _ _ _ _ _ _ (c .if1 .taken))
+returns c = rw (← c .before .before .list-refusal .ensures, c .refused .ensures) (refused-restored _ _ _ _ _ _ _ _ _ (c .before .if1 .taken))
 
 plan-requires : tie.Need-plan-requires
 plan-requires c κs = search needs
@@ -74,6 +75,7 @@ restore-and-replay-spec =
     tie.close
     (tie.spec
     list-refusal-requires
+    refused-requires
     returns
     plan-requires
     size-of-requires
