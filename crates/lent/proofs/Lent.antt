@@ -1,0 +1,89 @@
+-- Laws of what a call is lent and leaves. Assumes nothing.
+use mathlib.Core.Path.{_≡_, refl, sym, _∙_, ap}
+use mathlib.Core.Bool.{Bool, true, false, cond}
+use mathlib.Core.Logic.{_≢_}
+use mathlib.Core.List.{List, [], _∷_, _++_, append-nil, append-assoc}
+use Prim.Native.Nat.{ℕ, suc, _+_, _<_, _≤_}
+use native.Mathlib.Omega.{arith}
+use borrow.Author.Tests.{lt-ltb, le-ltb, ltb-false, eqb-true, eqb-false, eq-eqb, ne-eqb}
+use lib.Dec.{eqb, ltb}
+use lib.ListN.{length, take, drop, getD, set, length-append}
+use lib.Seq.{take-at, drop-cons, set-at}
+use Rattle.lent.specs.Lent.{orElse, wordsRefusal, onto, unlessRefused}
+
+-- ---- the first number that is not 0
+-- a test that gives 0: it failed, and what follows gives 0
+pub peel : (b : Bool) (k x : ℕ) → cond b (suc k) x ≡ 0 → (b ≡ false) × (x ≡ 0)
+peel true k x e = let no : ⊥ = omega arith in absurd no
+peel false k x e = (refl, e)
+
+pub or-else-zero : (a b : ℕ) → orElse a b ≡ 0 → (a ≡ 0) × (b ≡ 0)
+unfolding orElse
+or-else-zero a b e = go (eqb a 0) refl e
+  where
+    go : (t : Bool) → eqb a 0 ≡ t → cond t b a ≡ 0 → (a ≡ 0) × (b ≡ 0)
+    go true q f = (eqb-true a 0 q, f)
+    go false q f = absurd (eqb-false a 0 q f)
+
+pub or-else-first : (a b : ℕ) → a ≢ 0 → orElse a b ≡ a
+unfolding orElse
+or-else-first a b h = rw (ne-eqb a 0 h)
+
+pub or-else-second : (a b : ℕ) → a ≡ 0 → orElse a b ≡ b
+unfolding orElse
+or-else-second a b h = rw (eq-eqb a 0 h)
+
+-- ---- 14
+pub words-ok : (lent needed : ℕ) → wordsRefusal lent needed ≡ 0 → needed ≤ lent
+unfolding wordsRefusal
+words-ok lent needed e = ltb-false _ _ (peel (ltb lent needed) 13 0 e .0)
+
+pub words-enough : (lent needed : ℕ) → needed ≤ lent → wordsRefusal lent needed ≡ 0
+unfolding wordsRefusal
+words-enough lent needed h = rw (le-ltb lent needed h)
+
+pub words-short : (lent needed : ℕ) → lent < needed → wordsRefusal lent needed ≡ 14
+unfolding wordsRefusal
+words-short lent needed h = rw (lt-ltb lent needed h)
+
+-- ---- the words after a call that is not refused, and after one that is
+pub written : (refusal n : ℕ) (new lent : List ℕ) → refusal ≡ 0 → length new ≡ n → new ++ drop n lent ≡ unlessRefused refusal new lent
+unfolding unlessRefused onto
+written refusal n new lent e long = rw (eq-eqb refusal 0 e, long)
+
+pub put : (refusal : ℕ) (new lent : List ℕ) → refusal ≡ 0 → onto new lent ≡ unlessRefused refusal new lent
+unfolding unlessRefused
+put refusal new lent e = rw (eq-eqb refusal 0 e)
+
+pub untouched : (refusal : ℕ) (new lent : List ℕ) → refusal ≢ 0 → lent ≡ unlessRefused refusal new lent
+unfolding unlessRefused
+untouched refusal new lent e = rw (ne-eqb refusal 0 e)
+
+-- the words named, of those that a call leaves
+pub named-words : (n : ℕ) (new lent : List ℕ) → length new ≡ n → take n (onto new lent) ≡ new
+unfolding onto
+named-words n new lent long = take-at new (drop (length new) lent) n long
+
+-- ---- words stored one by one, from place k on
+unfoldable pub storeEach : ℕ → List ℕ → List ℕ → List ℕ
+storeEach k [] lent = lent
+storeEach k (a ∷ new) lent = storeEach (suc k) new (set lent k a)
+
+store-after : (front new lent : List ℕ) → length front + length new ≤ length lent → storeEach (length front) new (onto front lent) ≡ onto (front ++ new) lent
+unfolding storeEach onto
+store-after front [] lent h = rw append-nil
+store-after front (a ∷ new) lent h =
+    let k = length front in
+    let long : length (front ++ (a ∷ [])) ≡ suc k = simp length-append (omega arith) in
+    let one : set (front ++ drop k lent) k a ≡ (front ++ (a ∷ [])) ++ drop (suc k) lent =
+    rw (drop-cons lent k 0 (omega arith)) (set-at front (getD lent k 0) (drop (suc k) lent) a k refl ∙ sym (append-assoc front (a ∷ []) (drop (suc k) lent))) in
+    let rest = store-after (front ++ (a ∷ [])) new lent (omega arith) in
+    rw (one) ((rw (long) at rest) ∙ rw (append-assoc front (a ∷ []) new))
+
+pub stored-words : (new lent : List ℕ) → length new ≤ length lent → storeEach 0 new lent ≡ onto new lent
+unfolding onto
+stored-words new lent h = store-after [] new lent (omega arith)
+
+-- words of a value that a call found, where it is not refused
+pub put-found : {A : Type 0} (words : A → List ℕ) (a b : A) (lent left : List ℕ) → a ≡ b → left ≡ onto (words a) lent → left ≡ unlessRefused 0 (words b) lent
+put-found words a b lent left same is = is ∙ ap (λ (x : _). onto (words x) lent) same ∙ put 0 (words b) lent refl

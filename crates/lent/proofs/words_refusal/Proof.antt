@@ -1,0 +1,14 @@
+-- `lent::words_refusal` meets its contract. Assumes nothing.
+use mathlib.Core.Path.{sym}
+use Rattle.lent.proofs.Lent.{words-short, words-enough}
+use Rattle.lent.proofs.words_refusal.Statement.{statement}
+use Rattle.lent.proofs.words_refusal.Tie as tie
+
+returns : tie.Need-returns
+returns c = sym (words-short _ _ (c .if1 .taken))
+
+returns-2 : tie.Need-returns-2
+returns-2 c = sym (words-enough _ _ (c .if1 .left))
+
+pub words-refusal-spec : {M : Type 1} → statement M
+words-refusal-spec = tie.close (tie.spec returns returns-2)
