@@ -8,7 +8,8 @@ ghost use Rattle.bytes_le.specs.Little.{le};
 // The byte at a place, as a wider number.
 fn wide(s: &[u8], at: usize) -> u32
     requires { ⌜ at < length (now s) ⌝ }
-    ensures { λ r. ⌜ (r ≡ getD (now (s .entry)) at 0) × (r < 256) ⌝ }
+    ensures answer { λ r. ⌜ r ≡ getD (now (s .entry)) at 0 ⌝ }
+    ensures small { λ r. ⌜ r < 256 ⌝ }
 {
     s[at] as u32
 }
@@ -16,21 +17,21 @@ fn wide(s: &[u8], at: usize) -> u32
 // The number in 1, 2 and 4 bytes.
 pub fn read1(s: &[u8], at: usize) -> u8
     requires { ⌜ at + 1 ≤ length (now s) ⌝ }
-    ensures { λ r. ⌜ r ≡ le 1 (now (s .entry)) at ⌝ }
+    ensures answer { λ r. ⌜ r ≡ le 1 (now (s .entry)) at ⌝ }
 {
     s[at]
 }
 
 pub fn read2(s: &[u8], at: usize) -> u32
     requires { ⌜ at + 2 ≤ length (now s) ⌝ }
-    ensures { λ r. ⌜ r ≡ le 2 (now (s .entry)) at ⌝ }
+    ensures answer { λ r. ⌜ r ≡ le 2 (now (s .entry)) at ⌝ }
 {
     wide(s, at) + 256 * wide(s, at + 1)
 }
 
 pub fn read4(s: &[u8], at: usize) -> u32
     requires { ⌜ at + 4 ≤ length (now s) ⌝ }
-    ensures { λ r. ⌜ r ≡ le 4 (now (s .entry)) at ⌝ }
+    ensures answer { λ r. ⌜ r ≡ le 4 (now (s .entry)) at ⌝ }
 {
     wide(s, at) + 256 * wide(s, at + 1) + 65536 * wide(s, at + 2) + 16777216 * wide(s, at + 3)
 }

@@ -1,32 +1,26 @@
--- What the tests 1 to 6 give: a log with `layout s ≡ 0` has its header and its sections within its bytes.
+-- What the tests 1 to 6 give: a log with `layoutRefusal s ≡ 0` has its header and its sections within its bytes.
 -- Assumes nothing.
-use mathlib.Core.Path.{_≡_, refl, sym, _∙_}
-use mathlib.Core.Bool.{Bool, true, false, not, cond, _||_}
+use mathlib.Core.Path.{_≡_}
+use mathlib.Core.Bool.{false, not, _||_}
 use mathlib.Core.List.{List}
-use Prim.Native.Nat.{ℕ, suc, _+_, _*_, _<_, _≤_}
+use Prim.Native.Nat.{ℕ, _+_, _*_, _<_, _≤_}
 use native.Mathlib.Omega.{arith}
-use borrow.Author.Tests.{ltb-false, eqb-false, not-false, eqb-true}
+use borrow.Author.Tests.{ltb-false, eqb-false}
 use lib.Dec.{ltb, eqb}
 use lib.ListN.{length}
 use Rattle.ranges.proofs.Any.{any-each}
+use Rattle.lent.proofs.Lent.{peel}
 use Rattle.ranges.proofs.Bools.{or-false-left, or-false-right}
 use Rattle.log.specs.Limits.{minLength, maxLength, maxWorkers, maxEvents, maxCheckpoints, maxRole}
 use Rattle.log.specs.Layout.{sizeField, lengthField, headerOf, field, eventCountField, eventOffsetField, checkpointCountField, checkpointOffsetField, roleField, eventSize, checkpointSize}
-use Rattle.log.specs.Header.{lengthFault, formFault, sizeFault, headerFault, limitFault, outside, sectionFault, entryFault, someEntry, entries, layout}
+use Rattle.log.specs.Header.{lengthFault, formFault, sizeFault, headerFault, limitFault, outside, sectionFault, entryFault, someEntry, entriesRefusal, layoutRefusal}
 
--- a chain of tests that gives 0: this test failed, and the rest of the chain gives 0
-pub peel : (b : Bool) (k x : ℕ) → cond b (suc k) x ≡ 0 → (b ≡ false) × (x ≡ 0)
-peel true k x e = let no : ⊥ = omega arith in absurd no
-peel false k x e = (refl, e)
-
--- the header's entry of a worker is within the limits, and its sections are behind the header and within the log
+-- the header's entry of a worker is within the limits, and its sections are within the log
 pub record Entry (s : List ℕ) (w : ℕ) : Type 0 where
   pub events : field s w eventCountField ≤ maxEvents
   pub checkpoints : field s w checkpointCountField ≤ maxCheckpoints
   pub role : field s w roleField ≤ maxRole
-  pub events-start : headerOf (sizeField s) ≤ field s w eventOffsetField
   pub events-end : field s w eventOffsetField + eventSize * field s w eventCountField ≤ length s
-  pub checkpoints-start : headerOf (sizeField s) ≤ field s w checkpointOffsetField
   pub checkpoints-end : field s w checkpointOffsetField + checkpointSize * field s w checkpointCountField ≤ length s
 
 pub record Readable (s : List ℕ) : Type 0 where
@@ -38,12 +32,9 @@ pub record Readable (s : List ℕ) : Type 0 where
   pub entry : (w : ℕ) → w < sizeField s → Entry s w
 
 module _ (s : List ℕ) where
-  within : (start bytes : ℕ) → outside s start bytes ≡ false → (headerOf (sizeField s) ≤ start) × (start + bytes ≤ length s)
+  within : (start bytes : ℕ) → outside s start bytes ≡ false → start + bytes ≤ length s
   unfolding outside
-  within start bytes e =
-      let inside = ltb start (headerOf (sizeField s)) in
-      let past = ltb (length s) (start + bytes) in
-      (ltb-false _ _ (or-false-left inside past e), ltb-false _ _ (or-false-right inside past e))
+  within start bytes e = ltb-false _ _ (or-false-right (ltb start (headerOf (sizeField s))) (ltb (length s) (start + bytes)) e)
 
   entry-of : (w : ℕ) → entryFault 5 s w ≡ false → entryFault 6 s w ≡ false → Entry s w
   unfolding entryFault limitFault sectionFault
@@ -54,20 +45,16 @@ module _ (s : List ℕ) where
       let first = outside s (field s w eventOffsetField) (eventSize * field s w eventCountField) in
       let second = outside s (field s w checkpointOffsetField) (checkpointSize * field s w checkpointCountField) in
       let counts = or-false-left (events || checkpoints) role five in
-      let lies = within _ _ (or-false-left first second six) in
-      let follows = within _ _ (or-false-right first second six) in
       record {
         events = ltb-false _ _ (or-false-left events checkpoints counts);
         checkpoints = ltb-false _ _ (or-false-right events checkpoints counts);
         role = ltb-false _ _ (or-false-right (events || checkpoints) role five);
-        events-start = lies .0;
-        events-end = lies .1;
-        checkpoints-start = follows .0;
-        checkpoints-end = follows .1;
+        events-end = within _ _ (or-false-left first second six);
+        checkpoints-end = within _ _ (or-false-right first second six);
       }
 
-  pub readable : layout s ≡ 0 → Readable s
-  unfolding layout lengthFault formFault sizeFault headerFault entries someEntry
+  pub readable : layoutRefusal s ≡ 0 → Readable s
+  unfolding layoutRefusal lengthFault formFault sizeFault headerFault entriesRefusal someEntry
   readable e =
       let one = peel (lengthFault s) 0 _ e in
       let two = peel (formFault s) 1 _ (one .1) in
@@ -76,13 +63,13 @@ module _ (s : List ℕ) where
       let five = peel (someEntry 5 s) 4 _ (four .1) in
       let six = peel (someEntry 6 s) 5 _ (five .1) in
       let under = ltb (length s) minLength in
-      let over = ltb maxLength (length s) in
+      let overCount = ltb maxLength (length s) in
       let none = eqb (sizeField s) 0 in
       let many = ltb maxWorkers (sizeField s) in
       let positive = eqb-false (sizeField s) 0 (or-false-left none many (three .0)) in
       record {
-        long = ltb-false _ _ (or-false-left under over (one .0));
-        short = ltb-false _ _ (or-false-right under over (one .0));
+        long = ltb-false _ _ (or-false-left under overCount (one .0));
+        short = ltb-false _ _ (or-false-right under overCount (one .0));
         some = omega (arith, positive);
         few = ltb-false _ _ (or-false-right none many (three .0));
         header = ltb-false _ _ (or-false-right (not (eqb (lengthField s) (length s))) (ltb (length s) (headerOf (sizeField s))) (four .0));

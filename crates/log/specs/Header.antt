@@ -7,7 +7,8 @@ use lib.Dec.{eqb, ltb}
 use lib.ListN.{length}
 use Rattle.ranges.specs.Fold.{anyBelow}
 use Rattle.log.specs.Limits.{minLength, maxLength, maxWorkers, maxEvents, maxCheckpoints, maxRole}
-use Rattle.log.specs.Layout.{formField, sizeField, lengthField, headerOf, field, eventCountField, eventOffsetField, checkpointCountField, checkpointOffsetField, roleField, eventSize, checkpointSize}
+use Rattle.log.specs.Layout.{formField, sizeField, lengthField, headerOf, field, eventSize, checkpointSize}
+use Rattle.log.specs.Layout.{eventCountField, eventOffsetField, checkpointCountField, checkpointOffsetField, roleField}
 
 -- 1: "log under 8 or over 4,194,304 bytes"
 unfoldable pub lengthFault : List ℕ → Bool
@@ -49,9 +50,9 @@ entryFault test s w = cond (eqb test 5) (limitFault s w) (sectionFault s w)
 unfoldable pub someEntry : ℕ → List ℕ → Bool
 someEntry test s = anyBelow (entryFault test s) (sizeField s)
 
-unfoldable pub entries : List ℕ → ℕ
-entries s = cond (someEntry 5 s) 5 (cond (someEntry 6 s) 6 0)
+unfoldable pub entriesRefusal : List ℕ → ℕ
+entriesRefusal s = cond (someEntry 5 s) 5 (cond (someEntry 6 s) 6 0)
 
 -- 1 to 6: 0 where the header and the sections lie as they should
-unfoldable pub layout : List ℕ → ℕ
-layout s = cond (lengthFault s) 1 (cond (formFault s) 2 (cond (sizeFault s) 3 (cond (headerFault s) 4 (entries s))))
+unfoldable pub layoutRefusal : List ℕ → ℕ
+layoutRefusal s = cond (lengthFault s) 1 (cond (formFault s) 2 (cond (sizeFault s) 3 (cond (headerFault s) 4 (entriesRefusal s))))

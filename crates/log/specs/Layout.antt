@@ -1,4 +1,4 @@
--- The layout of a log in bytes, and the log that it holds. No other definition knows a byte or an offset, but for the tests 1 to 7.
+-- The layout of a log in bytes, and the log that it holds. No other definition knows a byte or an offset, but for the tests 1 to 6.
 -- Assumes nothing.
 use mathlib.Core.Bool.{cond}
 use mathlib.Core.List.{List}
@@ -9,7 +9,7 @@ use Rattle.ranges.specs.Fold.{tabulate}
 use Rattle.bytes_le.specs.Little.{le}
 use Rattle.log.specs.declared.Event.{Event}
 use Rattle.log.specs.declared.Checkpoint.{Checkpoint}
-use Rattle.log.specs.Model.{Log, Worker}
+use Rattle.log.specs.Model.{Log, Workers, Worker}
 
 -- "Bytes 0-1: form. Bytes 2-3: worker count n. Bytes 4-7: length of the log in bytes"
 abbrev pub formField : List ℕ → ℕ
@@ -69,10 +69,13 @@ checkpointSection s w = section s (field s w checkpointOffsetField) (checkpointS
 -- "kind (1 byte), peer (1 byte), spare (2 bytes, zero), peer event (4 bytes), stamp (4 bytes)": record k, from 0, of a section
 unfoldable pub eventRecord : List ℕ → ℕ → Event
 eventRecord part k =
-    record { kind = le 1 part (eventSize * k); peer = le 1 part (eventSize * k + 1); send = le 4 part (eventSize * k + 4); stamp = le 4 part (eventSize * k + 8) }
-
-unfoldable pub spareOf : List ℕ → ℕ → ℕ
-spareOf part k = le 2 part (eventSize * k + 2)
+    record {
+      kind = le 1 part (eventSize * k);
+      peer = le 1 part (eventSize * k + 1);
+      spare = le 2 part (eventSize * k + 2);
+      send = le 4 part (eventSize * k + 4);
+      stamp = le 4 part (eventSize * k + 8);
+    }
 
 -- "event index (4), checkpoint identifier (4)"
 unfoldable pub checkpointRecord : List ℕ → ℕ → Checkpoint
@@ -86,6 +89,9 @@ workerOf s w =
       checkpoints = tabulate (checkpointRecord (checkpointSection s w)) (field s w checkpointCountField);
     }
 
--- the log that the bytes hold
-unfoldable pub logOf : List ℕ → Log
-logOf s = record { form = formField s; workers = tabulate (workerOf s) (sizeField s) }
+-- the workers that the bytes hold, and the log
+unfoldable pub workersOf : List ℕ → Workers
+workersOf s = tabulate (workerOf s) (sizeField s)
+
+abbrev pub logOf : List ℕ → Log
+logOf s = record { form = formField s; workers = workersOf s }

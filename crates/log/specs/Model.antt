@@ -15,13 +15,17 @@ pub record Worker : Type 0 where
   pub events : List Event
   pub checkpoints : List Checkpoint
 
+-- what a log says of the run: everything above the acceptance of a log is over this
+abbrev pub Workers : Type 0
+Workers = List Worker
+
 pub record Log : Type 0 where
   pub form : ℕ
-  pub workers : List Worker
+  pub workers : Workers
 
 -- "Index 0 is the paper's ⊥: no event"
 abbrev pub noEvent : Event
-noEvent = record { kind = 0; peer = 0; send = 0; stamp = 0 }
+noEvent = record { kind = 0; peer = 0; spare = 0; send = 0; stamp = 0 }
 
 -- "The initial state is always a checkpoint, index 0, identifier 0, and isn't recorded"
 abbrev pub initial : Checkpoint
@@ -31,29 +35,29 @@ abbrev pub noWorker : Worker
 noWorker = record { role = 0; events = []; checkpoints = [] }
 
 -- the worker count n
-unfoldable pub size : Log → ℕ
-size log = length (log .workers)
+unfoldable pub workerCount : Workers → ℕ
+workerCount log = length log
 
-unfoldable pub worker : Log → ℕ → Worker
-worker log w = getD (log .workers) w noWorker
+unfoldable pub worker : Workers → ℕ → Worker
+worker log w = getD log w noWorker
 
-unfoldable pub roleOf : Log → ℕ → ℕ
+unfoldable pub roleOf : Workers → ℕ → ℕ
 roleOf log w = worker log w .role
 
 -- the event count of worker w
-unfoldable pub count : Log → ℕ → ℕ
-count log w = length (worker log w .events)
+unfoldable pub eventCount : Workers → ℕ → ℕ
+eventCount log w = length (worker log w .events)
 
--- event x of worker w: "Events of a worker are numbered 1, 2, .. in record order"; `noEvent` outside 1 .. count
-unfoldable pub eventOf : Log → ℕ → ℕ → Event
+-- event x of worker w: "Events of a worker are numbered 1, 2, .. in record order"; `noEvent` outside 1 .. the event count
+unfoldable pub eventOf : Workers → ℕ → ℕ → Event
 eventOf log w x = getD (noEvent ∷ worker log w .events) x noEvent
 
 -- the number of recorded checkpoints of worker w
-unfoldable pub checkpoints : Log → ℕ → ℕ
-checkpoints log w = length (worker log w .checkpoints)
+unfoldable pub checkpointCount : Workers → ℕ → ℕ
+checkpointCount log w = length (worker log w .checkpoints)
 
 -- checkpoint c of worker w: number 0 is the initial state, and the recorded ones are 1, 2, .. in record order
-unfoldable pub checkpointOf : Log → ℕ → ℕ → Checkpoint
+unfoldable pub checkpointOf : Workers → ℕ → ℕ → Checkpoint
 checkpointOf log w c = getD (initial ∷ worker log w .checkpoints) c initial
 
 -- "Kind 1 is a send, 2 a receive without its data logged, 3 a receive with its data logged"

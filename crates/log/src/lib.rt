@@ -4,9 +4,9 @@ ghost use mathlib.Core.Path.{_≡_};
 ghost use Prim.Native.Nat.{_+_, _*_, _<_, _≤_};
 ghost use lib.ListN.{length};
 ghost use Rattle.log.specs.Limits.{maxWorkers, maxEvents, maxCheckpoints, maxRole};
-ghost use Rattle.log.specs.Model.{size, count, eventOf, checkpoints, checkpointOf, roleOf, isSend, isUnlogged, isReceive};
-ghost use Rattle.log.specs.Layout.{formField, sizeField, lengthField, headerOf, field, entryOrZero, section, eventRecord, spareOf, checkpointRecord, eventSection, logOf};
-ghost use Rattle.log.specs.Header.{limitFault, outside, sectionFault, entryFault, someEntry, entries, layout};
+ghost use Rattle.log.specs.Model.{workerCount, eventCount, eventOf, checkpointCount, checkpointOf, roleOf, isSend, isUnlogged, isReceive};
+ghost use Rattle.log.specs.Layout.{formField, sizeField, lengthField, headerOf, field, entryOrZero, section, eventRecord, checkpointRecord, workersOf};
+ghost use Rattle.log.specs.Header.{limitFault, outside, sectionFault, entryFault, someEntry, entriesRefusal, layoutRefusal};
 
 // The limits of a log.
 const MIN_LENGTH: usize = 8;
@@ -22,15 +22,15 @@ const MAX_CHECKPOINTS: u32 = 1024;
 const MAX_ROLE: u32 = 3;
 
 // The numbers of a worker's entry in the header.
-const EVENT_COUNT: usize = 0;
+const EVENT_COUNT_FIELD: usize = 0;
 
-const EVENT_OFFSET: usize = 1;
+const EVENT_OFFSET_FIELD: usize = 1;
 
-const CHECKPOINT_COUNT: usize = 2;
+const CHECKPOINT_COUNT_FIELD: usize = 2;
 
-const CHECKPOINT_OFFSET: usize = 3;
+const CHECKPOINT_OFFSET_FIELD: usize = 3;
 
-const ROLE: usize = 4;
+const ROLE_FIELD: usize = 4;
 
 // The bytes of a record.
 const EVENT_SIZE: usize = 12;
@@ -41,6 +41,7 @@ const CHECKPOINT_SIZE: usize = 8;
 pub struct Event {
     pub kind: u8,
     pub peer: u8,
+    pub spare: u32,
     pub send: u32,
     pub stamp: u32,
 }
@@ -53,28 +54,28 @@ pub struct Checkpoint {
 
 fn form_field(log: &[u8]) -> u32
     requires { ⌜ 8 ≤ length (now log) ⌝ }
-    ensures { λ r. ⌜ r ≡ formField (now (log .entry)) ⌝ }
+    ensures answer { λ r. ⌜ r ≡ formField (now (log .entry)) ⌝ }
 {
     bytes_le::read2(log, 0)
 }
 
 fn size_field(log: &[u8]) -> u32
     requires { ⌜ 8 ≤ length (now log) ⌝ }
-    ensures { λ r. ⌜ r ≡ sizeField (now (log .entry)) ⌝ }
+    ensures answer { λ r. ⌜ r ≡ sizeField (now (log .entry)) ⌝ }
 {
     bytes_le::read2(log, 2)
 }
 
 fn length_field(log: &[u8]) -> u32
     requires { ⌜ 8 ≤ length (now log) ⌝ }
-    ensures { λ r. ⌜ r ≡ lengthField (now (log .entry)) ⌝ }
+    ensures answer { λ r. ⌜ r ≡ lengthField (now (log .entry)) ⌝ }
 {
     bytes_le::read4(log, 4)
 }
 
 // The bytes of the header of a log of n workers.
 fn header_of(n: u32) -> usize
-    ensures { λ r. ⌜ r ≡ headerOf n ⌝ }
+    ensures answer { λ r. ⌜ r ≡ headerOf n ⌝ }
 {
     8 + 20 * (n as usize)
 }
@@ -82,7 +83,7 @@ fn header_of(n: u32) -> usize
 // Number j of the header's entry of worker w.
 fn entry(log: &[u8], w: usize, j: usize) -> u32
     requires { ⌜ (j < 5) × (headerOf (w + 1) ≤ length (now log)) ⌝ }
-    ensures { λ r. ⌜ r ≡ field (now (log .entry)) w j ⌝ }
+    ensures answer { λ r. ⌜ r ≡ field (now (log .entry)) w j ⌝ }
 {
     bytes_le::read4(log, 8 + 20 * w + 4 * j)
 }
@@ -90,21 +91,21 @@ fn entry(log: &[u8], w: usize, j: usize) -> u32
 // Test 5 on worker w.
 fn limit_fault(log: &[u8], w: usize) -> bool
     requires { ⌜ headerOf (w + 1) ≤ length (now log) ⌝ }
-    ensures { λ r. ⌜ r ≡ limitFault (now (log .entry)) w ⌝ }
+    ensures answer { λ r. ⌜ r ≡ limitFault (now (log .entry)) w ⌝ }
 {
-    if MAX_EVENTS < entry(log, w, EVENT_COUNT) {
+    if MAX_EVENTS < entry(log, w, EVENT_COUNT_FIELD) {
         return true;
     }
-    if MAX_CHECKPOINTS < entry(log, w, CHECKPOINT_COUNT) {
+    if MAX_CHECKPOINTS < entry(log, w, CHECKPOINT_COUNT_FIELD) {
         return true;
     }
-    MAX_ROLE < entry(log, w, ROLE)
+    MAX_ROLE < entry(log, w, ROLE_FIELD)
 }
 
 // Whether `bytes` bytes from `start` on leave the part of the log behind its header.
 fn is_outside(log: &[u8], start: u32, bytes: usize) -> bool
     requires { ⌜ (8 ≤ length (now log)) × (bytes < 68719476736) ⌝ }
-    ensures { λ r. ⌜ r ≡ outside (now (log .entry)) start bytes ⌝ }
+    ensures answer { λ r. ⌜ r ≡ outside (now (log .entry)) start bytes ⌝ }
 {
     if (start as usize) < header_of(size_field(log)) {
         return true;
@@ -115,19 +116,19 @@ fn is_outside(log: &[u8], start: u32, bytes: usize) -> bool
 // Test 6 on worker w.
 fn section_fault(log: &[u8], w: usize) -> bool
     requires { ⌜ headerOf (w + 1) ≤ length (now log) ⌝ }
-    ensures { λ r. ⌜ r ≡ sectionFault (now (log .entry)) w ⌝ }
+    ensures answer { λ r. ⌜ r ≡ sectionFault (now (log .entry)) w ⌝ }
 {
-    let events = EVENT_SIZE * (entry(log, w, EVENT_COUNT) as usize);
-    if is_outside(log, entry(log, w, EVENT_OFFSET), events) {
+    let events = EVENT_SIZE * (entry(log, w, EVENT_COUNT_FIELD) as usize);
+    if is_outside(log, entry(log, w, EVENT_OFFSET_FIELD), events) {
         return true;
     }
-    let checkpoints = CHECKPOINT_SIZE * (entry(log, w, CHECKPOINT_COUNT) as usize);
-    is_outside(log, entry(log, w, CHECKPOINT_OFFSET), checkpoints)
+    let checkpoints = CHECKPOINT_SIZE * (entry(log, w, CHECKPOINT_COUNT_FIELD) as usize);
+    is_outside(log, entry(log, w, CHECKPOINT_OFFSET_FIELD), checkpoints)
 }
 
 fn entry_fault(log: &[u8], test: u32, w: usize) -> bool
     requires { ⌜ headerOf (w + 1) ≤ length (now log) ⌝ }
-    ensures { λ r. ⌜ r ≡ entryFault test (now (log .entry)) w ⌝ }
+    ensures answer { λ r. ⌜ r ≡ entryFault test (now (log .entry)) w ⌝ }
 {
     if test == 5 {
         limit_fault(log, w)
@@ -139,7 +140,7 @@ fn entry_fault(log: &[u8], test: u32, w: usize) -> bool
 // Whether some worker's entry has the fault of this number, 5 or 6.
 fn some_entry(log: &[u8], test: u32) -> bool
     requires { ⌜ (8 ≤ length (now log)) × (headerOf (sizeField (now log)) ≤ length (now log)) ⌝ }
-    ensures { λ r. ⌜ r ≡ someEntry test (now (log .entry)) ⌝ }
+    ensures answer { λ r. ⌜ r ≡ someEntry test (now (log .entry)) ⌝ }
 {
     let n = size_field(log) as usize;
     let mut w: usize = 0;
@@ -155,7 +156,7 @@ fn some_entry(log: &[u8], test: u32) -> bool
 // Tests 5 and 6 on a log whose header is whole.
 fn entries_refusal(log: &[u8]) -> u32
     requires { ⌜ (8 ≤ length (now log)) × (headerOf (sizeField (now log)) ≤ length (now log)) ⌝ }
-    ensures { λ r. ⌜ r ≡ entries (now (log .entry)) ⌝ }
+    ensures answer { λ r. ⌜ r ≡ entriesRefusal (now (log .entry)) ⌝ }
 {
     if some_entry(log, 5) {
         return 5;
@@ -168,7 +169,7 @@ fn entries_refusal(log: &[u8]) -> u32
 
 // Tests 1 to 6: the number of the first that fails, or 0.
 pub fn layout_refusal(log: &[u8]) -> u32
-    ensures { λ r. ⌜ r ≡ layout (now (log .entry)) ⌝ }
+    ensures answer { λ r. ⌜ r ≡ layoutRefusal (now (log .entry)) ⌝ }
 {
     if log.len() < MIN_LENGTH {
         return 1;
@@ -198,27 +199,21 @@ pub fn layout_refusal(log: &[u8]) -> u32
 // Record k, from 0, of a section of events.
 fn event_record(part: &[u8], k: usize) -> Event
     requires { ⌜ 12 * k + 12 ≤ length (now part) ⌝ }
-    ensures { λ r. ⌜ r ≡ eventRecord (now (part .entry)) k ⌝ }
+    ensures answer { λ r. ⌜ r ≡ eventRecord (now (part .entry)) k ⌝ }
 {
     let at = EVENT_SIZE * k;
     Event {
         kind: bytes_le::read1(part, at),
         peer: bytes_le::read1(part, at + 1),
+        spare: bytes_le::read2(part, at + 2),
         send: bytes_le::read4(part, at + 4),
         stamp: bytes_le::read4(part, at + 8),
     }
 }
 
-fn spare_record(part: &[u8], k: usize) -> u32
-    requires { ⌜ 12 * k + 12 ≤ length (now part) ⌝ }
-    ensures { λ r. ⌜ r ≡ spareOf (now (part .entry)) k ⌝ }
-{
-    bytes_le::read2(part, EVENT_SIZE * k + 2)
-}
-
 fn checkpoint_record(part: &[u8], k: usize) -> Checkpoint
     requires { ⌜ 8 * k + 8 ≤ length (now part) ⌝ }
-    ensures { λ r. ⌜ r ≡ checkpointRecord (now (part .entry)) k ⌝ }
+    ensures answer { λ r. ⌜ r ≡ checkpointRecord (now (part .entry)) k ⌝ }
 {
     let at = CHECKPOINT_SIZE * k;
     Checkpoint {
@@ -237,13 +232,13 @@ pub struct Section<'a> {
 // The part of the log that has `count` records of `size` bytes from `start` on.
 fn part_at(log: &[u8], start: usize, count: usize, size: usize) -> &[u8]
     requires { ⌜ start + size * count ≤ length (now log) ⌝ }
-    ensures { λ r. ⌜ now r ≡ section (now (log .entry)) start (size * count) ⌝ }
+    ensures answer { λ r. ⌜ now r ≡ section (now (log .entry)) start (size * count) ⌝ }
 {
     &log[start..start + size * count]
 }
 
 fn section_of<'a>(log: &'a [u8], start: usize, count: usize) -> Section<'a>
-    ensures { λ r. ⌜ (r .log ≡ log .entry) × (r .start ≡ start) × (r .count ≡ count) ⌝ }
+    ensures answer { λ r. ⌜ r ≡ record { log = log .entry; start = start; count = count } ⌝ }
 {
     Section { log, start, count }
 }
@@ -251,7 +246,7 @@ fn section_of<'a>(log: &'a [u8], start: usize, count: usize) -> Section<'a>
 // The part of the log that a section of records of `size` bytes is.
 fn part_of<'a>(s: Section<'a>, size: usize) -> &'a [u8]
     requires { ⌜ s .start + size * s .count ≤ length (now (s .log)) ⌝ }
-    ensures { λ r. ⌜ now r ≡ section (now (s .entry .log)) (s .entry .start) (size * s .entry .count) ⌝ }
+    ensures answer { λ r. ⌜ now r ≡ section (now (s .entry .log)) (s .entry .start) (size * s .entry .count) ⌝ }
 {
     part_at(s.log, s.start, s.count, size)
 }
@@ -259,47 +254,41 @@ fn part_of<'a>(s: Section<'a>, size: usize) -> &'a [u8]
 // The same from the log and the numbers of the section: every record is read through this.
 fn section_part(log: &[u8], start: usize, count: usize, size: usize) -> &[u8]
     requires { ⌜ start + size * count ≤ length (now log) ⌝ }
-    ensures { λ r. ⌜ now r ≡ section (now (log .entry)) start (size * count) ⌝ }
+    ensures answer { λ r. ⌜ now r ≡ section (now (log .entry)) start (size * count) ⌝ }
 {
     part_of(section_of(log, start, count), size)
 }
 
-// Record k of the section of `number` records that starts at `start`.
-fn event_in(log: &[u8], start: usize, number: usize, k: usize) -> Event
-    requires { ⌜ (start + 12 * number ≤ length (now log)) × (k < number) ⌝ }
-    ensures { λ r. ⌜ r ≡ eventRecord (section (now (log .entry)) start (12 * number)) k ⌝ }
+// Record k of the section of `count` records that starts at `start`.
+fn event_in(log: &[u8], start: usize, count: usize, k: usize) -> Event
+    requires { ⌜ (start + 12 * count ≤ length (now log)) × (k < count) ⌝ }
+    ensures answer { λ r. ⌜ r ≡ eventRecord (section (now (log .entry)) start (12 * count)) k ⌝ }
 {
-    event_record(section_part(log, start, number, EVENT_SIZE), k)
+    event_record(section_part(log, start, count, EVENT_SIZE), k)
 }
 
-fn spare_in(log: &[u8], start: usize, number: usize, k: usize) -> u32
-    requires { ⌜ (start + 12 * number ≤ length (now log)) × (k < number) ⌝ }
-    ensures { λ r. ⌜ r ≡ spareOf (section (now (log .entry)) start (12 * number)) k ⌝ }
+fn checkpoint_in(log: &[u8], start: usize, count: usize, k: usize) -> Checkpoint
+    requires { ⌜ (start + 8 * count ≤ length (now log)) × (k < count) ⌝ }
+    ensures answer { λ r. ⌜ r ≡ checkpointRecord (section (now (log .entry)) start (8 * count)) k ⌝ }
 {
-    spare_record(section_part(log, start, number, EVENT_SIZE), k)
-}
-
-fn checkpoint_in(log: &[u8], start: usize, number: usize, k: usize) -> Checkpoint
-    requires { ⌜ (start + 8 * number ≤ length (now log)) × (k < number) ⌝ }
-    ensures { λ r. ⌜ r ≡ checkpointRecord (section (now (log .entry)) start (8 * number)) k ⌝ }
-{
-    checkpoint_record(section_part(log, start, number, CHECKPOINT_SIZE), k)
+    checkpoint_record(section_part(log, start, count, CHECKPOINT_SIZE), k)
 }
 
 // The number of workers.
-pub fn size_of(log: &[u8]) -> usize
-    requires { ⌜ layout (now log) ≡ 0 ⌝ }
-    ensures { λ r. ⌜ (r ≡ size (logOf (now (log .entry)))) × (r ≤ maxWorkers) ⌝ }
+pub fn worker_count(log: &[u8]) -> usize
+    requires { ⌜ layoutRefusal (now log) ≡ 0 ⌝ }
+    ensures answer { λ r. ⌜ r ≡ workerCount (workersOf (now (log .entry))) ⌝ }
+    ensures few { λ r. ⌜ r ≤ maxWorkers ⌝ }
 {
     size_field(log) as usize
 }
 
 // Number j of the entry of worker w, and 0 past the last worker.
 fn entry_or_zero(log: &[u8], w: usize, j: usize) -> u32
-    requires { ⌜ (layout (now log) ≡ 0) × (j < 5) ⌝ }
-    ensures { λ r. ⌜ r ≡ entryOrZero (now (log .entry)) w j ⌝ }
+    requires { ⌜ (layoutRefusal (now log) ≡ 0) × (j < 5) ⌝ }
+    ensures answer { λ r. ⌜ r ≡ entryOrZero (now (log .entry)) w j ⌝ }
 {
-    if size_of(log) <= w {
+    if worker_count(log) <= w {
         return 0;
     }
     entry(log, w, j)
@@ -307,101 +296,96 @@ fn entry_or_zero(log: &[u8], w: usize, j: usize) -> u32
 
 // The role of worker w.
 pub fn role_of(log: &[u8], w: usize) -> u32
-    requires { ⌜ layout (now log) ≡ 0 ⌝ }
-    ensures { λ r. ⌜ (r ≡ roleOf (logOf (now (log .entry))) w) × (r ≤ maxRole) ⌝ }
+    requires { ⌜ layoutRefusal (now log) ≡ 0 ⌝ }
+    ensures answer { λ r. ⌜ r ≡ roleOf (workersOf (now (log .entry))) w ⌝ }
+    ensures small { λ r. ⌜ r ≤ maxRole ⌝ }
 {
-    entry_or_zero(log, w, ROLE)
+    entry_or_zero(log, w, ROLE_FIELD)
 }
 
 // The event count of worker w.
-pub fn count_of(log: &[u8], w: usize) -> u32
-    requires { ⌜ layout (now log) ≡ 0 ⌝ }
-    ensures { λ r. ⌜ (r ≡ count (logOf (now (log .entry))) w) × (r ≤ maxEvents) ⌝ }
+pub fn event_count(log: &[u8], w: usize) -> u32
+    requires { ⌜ layoutRefusal (now log) ≡ 0 ⌝ }
+    ensures answer { λ r. ⌜ r ≡ eventCount (workersOf (now (log .entry))) w ⌝ }
+    ensures few { λ r. ⌜ r ≤ maxEvents ⌝ }
 {
-    entry_or_zero(log, w, EVENT_COUNT)
+    entry_or_zero(log, w, EVENT_COUNT_FIELD)
 }
 
 // The number of recorded checkpoints of worker w.
-pub fn checkpoints_of(log: &[u8], w: usize) -> u32
-    requires { ⌜ layout (now log) ≡ 0 ⌝ }
-    ensures { λ r. ⌜ (r ≡ checkpoints (logOf (now (log .entry))) w) × (r ≤ maxCheckpoints) ⌝ }
+pub fn checkpoint_count(log: &[u8], w: usize) -> u32
+    requires { ⌜ layoutRefusal (now log) ≡ 0 ⌝ }
+    ensures answer { λ r. ⌜ r ≡ checkpointCount (workersOf (now (log .entry))) w ⌝ }
+    ensures few { λ r. ⌜ r ≤ maxCheckpoints ⌝ }
 {
-    entry_or_zero(log, w, CHECKPOINT_COUNT)
+    entry_or_zero(log, w, CHECKPOINT_COUNT_FIELD)
 }
 
 // Event x of worker w, and no event outside 1 .. its count.
 pub fn event_at(log: &[u8], w: usize, x: u32) -> Event
-    requires { ⌜ layout (now log) ≡ 0 ⌝ }
-    ensures { λ r. ⌜ r ≡ eventOf (logOf (now (log .entry))) w x ⌝ }
+    requires { ⌜ layoutRefusal (now log) ≡ 0 ⌝ }
+    ensures answer { λ r. ⌜ r ≡ eventOf (workersOf (now (log .entry))) w x ⌝ }
 {
-    let number = count_of(log, w);
+    let count = event_count(log, w);
     if x == 0 {
         return Event {
             kind: 0,
             peer: 0,
+            spare: 0,
             send: 0,
             stamp: 0,
         };
     }
-    if number < x {
+    if count < x {
         return Event {
             kind: 0,
             peer: 0,
+            spare: 0,
             send: 0,
             stamp: 0,
         };
     }
-    let start = entry(log, w, EVENT_OFFSET);
-    event_in(log, start as usize, number as usize, (x - 1) as usize)
-}
-
-// The spare bytes of event k + 1 of worker w.
-pub fn spare_at(log: &[u8], w: usize, k: u32) -> u32
-    requires { ⌜ (layout (now log) ≡ 0) × (k < count (logOf (now log)) w) ⌝ }
-    ensures { λ r. ⌜ r ≡ spareOf (eventSection (now (log .entry)) w) k ⌝ }
-{
-    let number = count_of(log, w);
-    let start = entry(log, w, EVENT_OFFSET);
-    spare_in(log, start as usize, number as usize, k as usize)
+    let start = entry(log, w, EVENT_OFFSET_FIELD);
+    event_in(log, start as usize, count as usize, (x - 1) as usize)
 }
 
 // Checkpoint c of worker w: 0 is the initial state, which stands past the last recorded one too.
 pub fn checkpoint_at(log: &[u8], w: usize, c: u32) -> Checkpoint
-    requires { ⌜ layout (now log) ≡ 0 ⌝ }
-    ensures { λ r. ⌜ r ≡ checkpointOf (logOf (now (log .entry))) w c ⌝ }
+    requires { ⌜ layoutRefusal (now log) ≡ 0 ⌝ }
+    ensures answer { λ r. ⌜ r ≡ checkpointOf (workersOf (now (log .entry))) w c ⌝ }
 {
-    let number = checkpoints_of(log, w);
+    let count = checkpoint_count(log, w);
     if c == 0 {
         return Checkpoint {
             index: 0,
             identifier: 0,
         };
     }
-    if number < c {
+    if count < c {
         return Checkpoint {
             index: 0,
             identifier: 0,
         };
     }
-    let start = entry(log, w, CHECKPOINT_OFFSET);
-    checkpoint_in(log, start as usize, number as usize, (c - 1) as usize)
+    let start = entry(log, w, CHECKPOINT_OFFSET_FIELD);
+    checkpoint_in(log, start as usize, count as usize, (c - 1) as usize)
 }
 
 // The kinds of an event.
 pub fn is_send(e: Event) -> bool
-    ensures { λ r. ⌜ r ≡ isSend e ⌝ }
+    ensures answer { λ r. ⌜ r ≡ isSend e ⌝ }
 {
     e.kind == 1
 }
 
 pub fn is_unlogged(e: Event) -> bool
-    ensures { λ r. ⌜ r ≡ isUnlogged e ⌝ }
+    ensures answer { λ r. ⌜ r ≡ isUnlogged e ⌝ }
 {
     e.kind == 2
 }
 
 pub fn is_receive(e: Event) -> bool
-    ensures { λ r. ⌜ r ≡ isReceive e ⌝ }
+    ensures answer { λ r. ⌜ r ≡ isReceive e ⌝ }
 {
     if e.kind == 2 {
         return true;

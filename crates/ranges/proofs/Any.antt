@@ -1,7 +1,7 @@
--- Laws of `anyBelow`: a loop that looks for a number with p keeps `any-none`, goes on by `any-more`, and stops early by `any-found`.
+-- Laws of `anyBelow`, and what a loop that looks for a number with p keeps.
 -- Assumes nothing.
 use mathlib.Core.Path.{_≡_, refl, _∙_, sym, ap}
-use mathlib.Core.Bool.{Bool, true, false, _||_, false≢true}
+use mathlib.Core.Bool.{Bool, true, false, false≢true}
 use mathlib.Core.Logic.{⊎-elim}
 use Prim.Native.Nat.{ℕ, zero, suc, _+_, _<_, _≤_}
 use native.Mathlib.Nat.{not-suc-le-zero, eq-or-lt-of-le, le-of-suc-le-suc}
@@ -55,3 +55,22 @@ pub any-same : (p q : ℕ → Bool) (n : ℕ) → ((k : ℕ) → k < n → p k �
 unfolding anyBelow
 any-same p q zero same = refl
 any-same p q (suc n) same = rw (any-same p q n (λ k h. same k (omega arith)), same n (omega arith))
+
+-- a loop that looks for a number with p below m has found none among the first k
+pub record Sought (p : ℕ → Bool) (m k : ℕ) : Type 0 where
+  pub few : k ≤ m
+  pub none : anyBelow p k ≡ false
+
+pub sought-none : {p : ℕ → Bool} {m : ℕ} → Sought p m 0
+sought-none {p} = record { few = omega arith; none = any-none p }
+
+-- .. it goes on, stops early, or comes to the end: m was read, and is n
+module _ {p : ℕ → Bool} {m k : ℕ} (s : Sought p m k) where
+  pub sought-more : k < m → {b : Bool} → b ≡ p k → b ≡ false → Sought p m (k + 1)
+  sought-more h said test = record { few = omega arith; none = any-more p k (s .none) (sym said ∙ test) }
+
+  pub sought-found : k < m → {b : Bool} → b ≡ p k → b ≡ true → {n : ℕ} → m ≡ n → true ≡ anyBelow p n
+  sought-found h said test size = sym (any-found p _ k (rw size at h) (sym said ∙ test))
+
+  pub sought-end : m ≤ k → {n : ℕ} → m ≡ n → false ≡ anyBelow p n
+  sought-end h size = let last : k ≡ m = omega arith in sym (rw (last, size) at (s .none))

@@ -5,7 +5,7 @@ ghost use Prim.Native.Nat.{max};
 
 // The larger of two numbers.
 pub fn larger(a: u32, b: u32) -> u32
-    ensures { λ r. ⌜ r ≡ max a b ⌝ }
+    ensures answer { λ r. ⌜ r ≡ max a b ⌝ }
 {
     if a < b { b } else { a }
 }

@@ -4,9 +4,6 @@ use borrow.Author.Needs.{needs}
 use Rattle.bytes_le.proofs.wide.Statement.{statement}
 use Rattle.bytes_le.proofs.wide.Tie as tie
 
-shared-slice-read-result : tie.Need-shared-slice-read-result
-shared-slice-read-result c = search needs
-
 cast-result : tie.Need-cast-result
 cast-result c = omega (arith, c .shared-slice-known .given (c .before .args .at))
 
@@ -14,4 +11,4 @@ returns : tie.Need-returns
 returns c = (search needs, omega (arith, c .shared-slice-known .given (c .before .args .at)))
 
 pub wide-spec : {M : Type 1} → statement M
-wide-spec = tie.close (tie.spec shared-slice-read-result cast-result returns)
+wide-spec = tie.close (tie.spec (λ c. search needs) cast-result returns)

@@ -5,9 +5,6 @@ use borrow.Author.Needs.{needs}
 use Rattle.log.proofs.checkpoint_in.Statement.{statement}
 use Rattle.log.proofs.checkpoint_in.Tie as tie
 
-section-part-requires : tie.Need-section-part-requires
-section-part-requires c κs = search needs
-
 checkpoint-record-requires : tie.Need-checkpoint-record-requires
 checkpoint-record-requires c κs = rw (c .section-part .ensures, section-length _ _ _ (c .before .before .pre .0)) (omega arith)
 
@@ -15,4 +12,4 @@ returns : tie.Need-returns
 returns c = rw (c .before .section-part .ensures) at (c .checkpoint-record .ensures)
 
 pub checkpoint-in-spec : {M : Type 1} → statement M
-checkpoint-in-spec = tie.close (tie.spec section-part-requires checkpoint-record-requires returns)
+checkpoint-in-spec = tie.close (tie.spec (λ c κs. search needs) checkpoint-record-requires returns)

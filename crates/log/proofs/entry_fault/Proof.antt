@@ -5,9 +5,6 @@ use borrow.Author.Needs.{needs}
 use Rattle.log.proofs.entry_fault.Statement.{statement}
 use Rattle.log.proofs.entry_fault.Tie as tie
 
-limit-fault-requires : tie.Need-limit-fault-requires
-limit-fault-requires c κs = search needs
-
 section-fault-requires : tie.Need-section-fault-requires
 section-fault-requires c κs = search needs
 
@@ -21,4 +18,4 @@ returns-2 c = rw (ne-eqb _ _ (c .before .if1 .left)) (c .section-fault .ensures)
 
 pub entry-fault-spec : {M : Type 1} → statement M
 entry-fault-spec =
-    tie.close (tie.spec limit-fault-requires section-fault-requires returns returns-2)
+    tie.close (tie.spec (λ c κs. search needs) section-fault-requires returns returns-2)

@@ -5,9 +5,6 @@ use borrow.Author.Needs.{needs}
 use Rattle.log.proofs.event_in.Statement.{statement}
 use Rattle.log.proofs.event_in.Tie as tie
 
-section-part-requires : tie.Need-section-part-requires
-section-part-requires c κs = search needs
-
 event-record-requires : tie.Need-event-record-requires
 event-record-requires c κs = rw (c .section-part .ensures, section-length _ _ _ (c .before .before .pre .0)) (omega arith)
 
@@ -15,4 +12,4 @@ returns : tie.Need-returns
 returns c = rw (c .before .section-part .ensures) at (c .event-record .ensures)
 
 pub event-in-spec : {M : Type 1} → statement M
-event-in-spec = tie.close (tie.spec section-part-requires event-record-requires returns)
+event-in-spec = tie.close (tie.spec (λ c κs. search needs) event-record-requires returns)

@@ -5,9 +5,6 @@ use borrow.Author.Needs.{needs}
 use Rattle.log.proofs.is_outside.Statement.{statement}
 use Rattle.log.proofs.is_outside.Tie as tie
 
-size-field-requires : tie.Need-size-field-requires
-size-field-requires c κs = search needs
-
 header-of-requires : tie.Need-header-of-requires
 header-of-requires c κs = search needs
 
@@ -15,13 +12,10 @@ returns : tie.Need-returns
 unfolding outside
 returns c = rw (lt-ltb _ _ (rw (c .before .header-of .ensures, c .before .before .size-field .ensures) at (c .if1 .taken)))
 
-add-result : tie.Need-add-result
-add-result c = search needs
-
 returns-2 : tie.Need-returns-2
 unfolding outside
 returns-2 c = rw (le-ltb _ _ (rw (c .before .header-of .ensures, c .before .before .size-field .ensures) at (c .if1 .left)))
 
 pub is-outside-spec : {M : Type 1} → statement M
 is-outside-spec =
-    tie.close (tie.spec size-field-requires header-of-requires returns add-result returns-2)
+    tie.close (tie.spec (λ c κs. search needs) header-of-requires returns (λ c. search needs) returns-2)

@@ -5,9 +5,6 @@ use borrow.Author.Needs.{needs}
 use Rattle.log.proofs.limit_fault.Statement.{statement}
 use Rattle.log.proofs.limit_fault.Tie as tie
 
-entry-requires : tie.Need-entry-requires
-entry-requires c κs = search needs
-
 returns : tie.Need-returns
 unfolding limitFault
 returns c = rw (← c .before .entry .ensures, lt-ltb _ _ (c .if1 .taken))
@@ -19,14 +16,12 @@ returns-2 : tie.Need-returns-2
 unfolding limitFault
 returns-2 c = rw (← c .before .before .before .entry .ensures, ← c .before .entry2 .ensures, le-ltb _ _ (c .before .before .if1 .left), lt-ltb _ _ (c .if2 .taken))
 
-entry-requires-3 : tie.Need-entry-requires-3
-entry-requires-3 c κs = search needs
-
 returns-3 : tie.Need-returns-3
 unfolding limitFault
-returns-3 c = rw (← c .before .before .before .before .entry .ensures, ← c .before .before .entry2 .ensures, ← c .entry3 .ensures, le-ltb _ _ (c .before .before .before .if1 .left), le-ltb _ _ (c .before .if2 .left))
+returns-3 c =
+    let events = c .before .before .before in
+    rw (← events .before .entry .ensures, ← c .before .before .entry2 .ensures, ← c .entry3 .ensures, le-ltb _ _ (events .if1 .left), le-ltb _ _ (c .before .if2 .left))
 
 pub limit-fault-spec : {M : Type 1} → statement M
 limit-fault-spec =
-    tie.close
-    (tie.spec entry-requires returns entry-requires-2 returns-2 entry-requires-3 returns-3)
+    tie.close (tie.spec (λ c κs. search needs) returns entry-requires-2 returns-2 (λ c κs. search needs) returns-3)

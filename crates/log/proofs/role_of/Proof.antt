@@ -6,11 +6,8 @@ use borrow.Author.Needs.{needs}
 use Rattle.log.proofs.role_of.Statement.{statement}
 use Rattle.log.proofs.role_of.Tie as tie
 
-entry-or-zero-requires : tie.Need-entry-or-zero-requires
-entry-or-zero-requires c κs = search needs
-
 returns : tie.Need-returns
 returns c = let law = role-field _ (c .before .before .pre) (c .before .before .args .w) in (c .entry-or-zero .ensures ∙ sym (law .0), omega (arith, c .entry-or-zero .ensures))
 
 pub role-of-spec : {M : Type 1} → statement M
-role-of-spec = tie.close (tie.spec entry-or-zero-requires returns)
+role-of-spec = tie.close (tie.spec (λ c κs. search needs) returns)

@@ -1,5 +1,8 @@
--- `log::section_part` meets its contract: a walk of its MIR, by hand, after the toolchain's `reader::first`. A `Section` that one call returns is held in a local and passed to the next. All that the proof knows of `section_of` and of `part_of` is that each meets its contract.
--- The machine value that `section_of` returns is stored and passed on as it is. In a local of a body MIR erases the lifetime of the struct's type, so the value is shown to have the type at `erased`: what the struct owns does not say the lifetime's name.
+-- `log::section_part` meets its contract: a walk of its MIR, by hand, after the toolchain's `reader::first`. A `Section` that one call
+-- returns is held in a local and passed to the next. All that the proof knows of `section_of` and of `part_of` is that each meets its
+-- contract.
+-- The machine value that `section_of` returns is stored and passed on as it is. In a local of a body MIR erases the lifetime of the
+-- struct's type, so the value is shown to have the type at `erased`: what the struct owns does not say the lifetime's name.
 -- Assumes nothing.
 use mathlib.Core.Path.{_≡_, refl}
 use Prim.Native.Nat.{ℕ, _+_, _*_, _<_, _≤_, _^_}
@@ -107,16 +110,18 @@ module _ {M : Type 1} (𝓤 : URA M) (H : Heap 𝓤) (A : Atoms 𝓤) (W : Given
   asked : ent 𝓤 (onEntry 𝓤 H A section-of.signature (κ, tt) (q, tt) (s, (start, (count, tt))) passed) (SectionOf 𝓤 H A mem run .pre to-section)
   asked = qed W ((‵ (flft κ q) ⊛ ‵ ftrue) ∷ ‵ (owns (Slice ∷ usize ∷ usize ∷ []) (s, (start, (count, tt))) passed) ∷ []) ∵ join ! $ frame ! $ done !
 
-  goes-section : start < 2 ^ 64 → count < 2 ^ 64 → ent 𝓤 (onEntry 𝓤 H A section-part.signature (κ, tt) (q, tt) (s, (start, (count, (size, tt)))) at) (sep 𝓤 (SectionOf 𝓤 H A mem run .pre to-section) (sem 𝓤 H A Kept))
+  goes-section : start < 2 ^ 64 → count < 2 ^ 64
+      → ent 𝓤 (onEntry 𝓤 H A section-part.signature (κ, tt) (q, tt) (s, (start, (count, (size, tt)))) at) (sep 𝓤 (SectionOf 𝓤 H A mem run .pre to-section) (sem 𝓤 H A Kept))
   goes-section gs gc =
       qed W ((‵ (flft κ q) ⊛ ‵ ftrue) ∷ ‵ Kept ∷ []) ∵
       move ! (1 ∷ []) $ fsplit ! $ use1 W (‵ Own ⊛ ‵ Own) (shr-slice-copy 𝓤 H A W (named 0) κ u8 .twice s (v ∷ [])) $ split ! $ move ! (0 ∷ 2 ∷ []) $ fjoin ! $ move ! (1 ∷ []) $
       -- [what s owns; what the parameters own; the token]
-      nothing ! $ owned ! usize (Is usize) (uint-makes 𝓤 H A W w64) count _ (refl, gc) $ fjoin ! $ owned ! usize (Is usize) (uint-makes 𝓤 H A W w64) start _ (refl, gs) $ fjoin ! $ move ! (1 ∷ 0 ∷ []) $ fjoin ! $
+      nothing ! $ owned ! usize (Is usize) (uint-makes 𝓤 H A W w64) count _ (refl, gc) $ fjoin ! $ owned ! usize (Is usize) (uint-makes 𝓤 H A W w64) start _ (refl, gs) $ fjoin ! $
+      move ! (1 ∷ 0 ∷ []) $ fjoin ! $
       move ! (2 ∷ 0 ∷ []) $ use2 W (raw (SectionOf 𝓤 H A mem run .pre to-section)) asked $ frame ! $ done !
 
   abbrev Made : Section → Type 0
-  Made r = (r .log ≡ s) × (r .start ≡ start) × (r .count ≡ count)
+  Made r = r ≡ record { log = s; start = start; count = count }
 
   section-said : (r : Section) → ent 𝓤 (ensured 𝓤 H A section-of.ended (section-of.clauses 𝓤 H A mem run) (κ, tt) (s, (start, (count, tt))) tt r) (fact 𝓤 (Made r))
   section-said r = exE 𝓤 _ (λ ws. snd∗ 𝓤 (sem 𝓤 H A (lasts section-of.ended (κ, tt) (s, (start, (count, tt))) ws)) (fact 𝓤 (Made r)))
@@ -125,7 +130,8 @@ module _ {M : Type 1} (𝓤 : URA M) (H : Heap 𝓤) (A : Atoms 𝓤) (W : Given
   abbrev to-part : Section → Val → PartOf 𝓤 H A mem run .Ghost
   to-part r u = (((κ, tt), (q, tt), tt, (r, (size, tt)), (u ∷ [], (vint w64 size ∷ [], tt))), tt)
 
-  goes-part : (r : Section) (u : Val) → size < 2 ^ 64 → r .start + size * r .count ≤ length (now (r .log)) → ent 𝓤 (⋆ 𝓤 H A (‵ (B (κ, tt) .own r (u ∷ [])) ∷ (‵ (flft κ q) ⊛ ‵ ftrue) ∷ [])) (PartOf 𝓤 H A mem run .pre (to-part r u))
+  goes-part : (r : Section) (u : Val) → size < 2 ^ 64 → r .start + size * r .count ≤ length (now (r .log))
+      → ent 𝓤 (⋆ 𝓤 H A (‵ (B (κ, tt) .own r (u ∷ [])) ∷ (‵ (flft κ q) ⊛ ‵ ftrue) ∷ [])) (PartOf 𝓤 H A mem run .pre (to-part r u))
   goes-part r u gz within =
       qed W (‵ (B (κ, tt) .own r (u ∷ [])) ∷ (‵ (flft κ q) ⊛ ‵ ftrue) ∷ []) ∵ says ! within $
       nothing ! $ owned ! usize (Is usize) (uint-makes 𝓤 H A W w64) size _ (refl, gz) $ fjoin ! $ move ! (1 ∷ 0 ∷ []) $ fjoin ! $ move ! (1 ∷ 0 ∷ []) $ frame ! $ done !
@@ -139,55 +145,70 @@ module _ {M : Type 1} (𝓤 : URA M) (H : Heap 𝓤) (A : Atoms 𝓤) (W : Given
   exits : (t : RefT (List ℕ)) (u : Val) → now t ≡ found → ent 𝓤 (⋆ 𝓤 H A (‵ (Slice .own t (u ∷ [])) ∷ (‵ (flft κ q) ⊛ ‵ ftrue) ∷ ‵ Kept ∷ [])) (Post u)
   exits t u e =
       qed W (‵ (Slice .own t (u ∷ [])) ∷ (‵ (flft κ q) ⊛ ‵ ftrue) ∷ ‵ Kept ∷ []) ∵
-      suffices ! _ (ends-at 𝓤 H A section-part.ended stayed (section-part.clauses 𝓤 H A mem run) W (((κ, tt), (q, tt), tt, (s, (start, (count, (size, tt)))), at), tt) u t (tt, (tt, (tt, (tt, tt)))) (tt, (tt, (tt, (tt, tt))))) $ says ! e $
+      suffices ! _ (ends-at 𝓤 H A section-part.ended stayed (section-part.clauses 𝓤 H A mem run) W (((κ, tt), (q, tt), tt, (s, (start, (count, (size, tt)))), at), tt) u t
+      (tt, (tt, (tt, (tt, tt)))) (tt, (tt, (tt, (tt, tt))))) $ says ! e $
       move ! (1 ∷ []) $ frame ! $ move ! (1 ∷ []) $ frame ! $ done !
 
   -- what is asked and said of the struct, at the log and the numbers that it was made of
   inside : (r : Section) → Made r → start + size * count ≤ length (now s) → r .start + size * r .count ≤ length (now (r .log))
-  inside r e within = rw (e .0, e .1, e .2) within
+  inside r e within = rw e within
 
   same : (r : Section) (t : RefT (List ℕ)) → Made r → Got r t → now t ≡ found
-  same r t e e′ = rw (e .0, e .1, e .2) at e′
+  same r t e e′ = rw e at e′
 
-  module _ (C : Calls 𝓤 H) (Λ : Loops 𝓤 H) (fm : FmC 𝓤 H (W .laws) C) (known-section : Triple 𝓤 (C #log·section-of) (SectionOf 𝓤 H A mem run)) (known-part : Triple 𝓤 (C #log·part-of) (PartOf 𝓤 H A mem run)) where
+  module _ (C : Calls 𝓤 H) (Λ : Loops 𝓤 H) (fm : FmC 𝓤 H (W .laws) C) (known-section : Triple 𝓤 (C #log·section-of) (SectionOf 𝓤 H A mem run))
+      (known-part : Triple 𝓤 (C #log·part-of) (PartOf 𝓤 H A mem run)) where
     walk : Is Slice s (v ∷ []) → start < 2 ^ 64 → count < 2 ^ 64 → size < 2 ^ 64 → start + size * count ≤ length (now s)
         → ent 𝓤 (onEntry 𝓤 H A section-part.signature (κ, tt) (q, tt) (s, (start, (count, (size, tt)))) at) (WpFn 𝓤 H C Λ code.function (v ∷ vint w64 start ∷ vint w64 count ∷ vint w64 size ∷ []) Post)
     walk p gs gc gz within =
-        qed W (raw (onEntry 𝓤 H A section-part.signature (κ, tt) (q, tt) (s, (start, (count, (size, tt)))) at) ∷ []) ∵ enter ! C Λ code.function (v ∷ vint w64 start ∷ vint w64 count ∷ vint w64 size ∷ []) _ $
-        alloc1 ! (λ l₀. alloc1 ! (λ l₁. alloc1 ! (λ l₂. alloc1 ! (λ l₃. alloc1 ! (λ l₄. alloc1 ! (λ l₅. alloc0 ! $ params1 ! $ pass1 ! (init ! 8 refl (shr-slice-lawful 𝓤 H A W (named 0) κ u8 .typed s (v ∷ []) p .0)) $
+        qed W (raw (onEntry 𝓤 H A section-part.signature (κ, tt) (q, tt) (s, (start, (count, (size, tt)))) at) ∷ []) ∵ enter ! C Λ code.function
+        (v ∷ vint w64 start ∷ vint w64 count ∷ vint w64 size ∷ []) _ $
+        alloc1 ! (λ l₀. alloc1 ! (λ l₁. alloc1 ! (λ l₂. alloc1 ! (λ l₃. alloc1 ! (λ l₄. alloc1 ! (λ l₅. alloc0 ! $ params1 ! $
+        pass1 ! (init ! 8 refl (shr-slice-lawful 𝓤 H A W (named 0) κ u8 .typed s (v ∷ []) p .0)) $
         pass1 ! (init ! 6 refl (tt, record { fits = gs })) $ pass1 ! (init ! 4 refl (tt, record { fits = gc })) $ pass1 ! (init ! 2 refl (tt, record { fits = gz })) $ pass0 ! $
         move ! (12 ∷ []) $ use1 W (raw (SectionOf 𝓤 H A mem run .pre to-section) ⊛ ‵ Kept) (goes-section gs gc) $ split ! $
         -- [what `section_of` asks; what the parameters own; room for _5; …; _4; …; _3; …; _2; …; _1; …; room for _0; …]
         calls-at ! fm (SectionOf 𝓤 H A mem run) known-section to-section
         (and-then ! (load ! (from ! (stop !)) (look ! 10 refl)) (and-then ! (load ! (from ! (stop !)) (look ! 8 refl)) (and-then ! (load ! (from ! (stop !)) (look ! 6 refl)) (no-more !)))) (λ u.
-        use1 W (later (some (λ (r : Section). ((‵ (flft κ q) ⊛ ‵ ftrue) ⊛ ‵ (B (κ, tt) .own r (u ∷ []))) ⊛ raw (ensured 𝓤 H A section-of.ended (section-of.clauses 𝓤 H A mem run) (κ, tt) (s, (start, (count, tt))) tt r)))) (id⊢ 𝓤 _) $ await ! tt $ pick ! (λ r.
+        use1 W (later (some (λ (r : Section). ((‵ (flft κ q) ⊛ ‵ ftrue) ⊛ ‵ (B (κ, tt) .own r (u ∷ []))) ⊛ raw
+        (ensured 𝓤 H A section-of.ended (section-of.clauses 𝓤 H A mem run) (κ, tt) (s, (start, (count, tt))) tt r)))) (id⊢ 𝓤 _) $ await ! tt $ pick ! (λ r.
         split ! $ move ! (1 ∷ []) $ use1 W (raw (fact 𝓤 (Made r))) (section-said r) $ heard ! (Made r) (λ e. split ! $ move ! (1 ∷ []) $
         -- [what the struct owns; the token; what the parameters own; room for _5; …; _4; …; _1; …; room for _0; …]
         peeks ! (B (κ, tt)) (Is (B (κ, tt))) (shows 𝓤 H A (B (κ, tt))) r (u ∷ []) (λ is.
         land ! (from ! (stop !)) (init ! 3 refl (LL.lawful (T.the-type αᵉ) (T′.the-laws αᵉ) 𝓤 H A W .typed r _ is .0)) $
         use2 W (raw (PartOf 𝓤 H A mem run .pre (to-part r u))) (goes-part r u gz (inside r e within)) $
         calls-at ! fm (PartOf 𝓤 H A mem run) known-part (to-part r u) (and-then ! (load ! (from ! (stop !)) (look ! 2 refl)) (and-then ! (load ! (from ! (stop !)) (look ! 4 refl)) (no-more !))) (λ u′.
-        use1 W (later (some (λ (t : RefT (List ℕ)). ((‵ (flft κ q) ⊛ ‵ ftrue) ⊛ ‵ (Slice .own t (u′ ∷ []))) ⊛ raw (ensured 𝓤 H A part-of.ended (part-of.clauses 𝓤 H A mem run) (κ, tt) (r, (size, tt)) tt t)))) (id⊢ 𝓤 _) $ await ! tt $ pick ! (λ t.
+        use1 W (later (some (λ (t : RefT (List ℕ)). ((‵ (flft κ q) ⊛ ‵ ftrue) ⊛ ‵ (Slice .own t (u′ ∷ []))) ⊛ raw
+        (ensured 𝓤 H A part-of.ended (part-of.clauses 𝓤 H A mem run) (κ, tt) (r, (size, tt)) tt t)))) (id⊢ 𝓤 _) $ await ! tt $ pick ! (λ t.
         split ! $ move ! (1 ∷ []) $ use1 W (raw (fact 𝓤 (Got r t))) (part-said r t) $ heard ! (Got r t) (λ e′. split ! $ move ! (1 ∷ []) $
         -- [the result; the token; what the parameters own; _5; …; _1; …; room for _0; …]
         peeks ! Slice (Is Slice) (shows 𝓤 H A Slice) t (u′ ∷ []) (λ is′.
         land ! (from ! (stop !)) (init ! 13 refl (shr-slice-lawful 𝓤 H A W (named 0) κ u8 .typed t (u′ ∷ []) is′ .0)) $
         returns ! (look ! 13 refl) $ forget ! 3 refl $ forget ! 5 refl $ forget ! 7 refl $ forget ! 9 refl $ forget ! 11 refl $ forget ! 13 refl $
-        move ! (13 ∷ 14 ∷ []) $ free1 ! $ move ! (11 ∷ 12 ∷ []) $ free1 ! $ move ! (9 ∷ 10 ∷ []) $ free1 ! $ move ! (7 ∷ 8 ∷ []) $ free1 ! $ move ! (5 ∷ 6 ∷ []) $ free1 ! $ move ! (3 ∷ 4 ∷ []) $ free1 ! $ free0 ! $
+        move ! (13 ∷ 14 ∷ []) $ free1 ! $ move ! (11 ∷ 12 ∷ []) $ free1 ! $ move ! (9 ∷ 10 ∷ []) $ free1 ! $ move ! (7 ∷ 8 ∷ []) $ free1 ! $ move ! (5 ∷ 6 ∷ []) $ free1 ! $
+        move ! (3 ∷ 4 ∷ []) $ free1 ! $ free0 ! $
         by ! (exits t u′ (same r t e e′))))))))))))))))
 
 module _ {M : Type 1} (𝓤 : URA M) (H : Heap 𝓤) (A : Atoms 𝓤) (W : Given 𝓤 H A) (mem : Memory → SProp 𝓤) (run : Routine → Fun 𝓤) where
   section-part-walks : (C : Calls 𝓤 H) (Λ : Loops 𝓤 H) → FmC 𝓤 H (W .laws) C → Triple 𝓤 (C #log·section-of) (SectionOf 𝓤 H A mem run) → Triple 𝓤 (C #log·part-of) (PartOf 𝓤 H A mem run)
       → Walks 𝓤 H A section-part.ended stayed (WpFn 𝓤 H C Λ code.function) (section-part.clauses 𝓤 H A mem run)
-  section-part-walks C Λ fm known-section known-part = walked 𝓤 H A section-part.ended stayed (section-part.clauses 𝓤 H A mem run) (WpFn 𝓤 H C Λ code.function) (λ κs. (slice-vals, (uint-vals w64, (uint-vals w64, (uint-vals w64, tt))))) (λ κs. (shr-slice-tells (named 0) (κs .0) u8, (uint-tells w64, (uint-tells w64, (uint-tells w64, tt)))))
-      (λ κs qs bounds a g are. needs 𝓤 _ _ (walk 𝓤 H A W mem run (κs .0) (qs .0) (a .0) (a .1 .0) (a .1 .1 .0) (a .1 .1 .1 .0) C Λ fm known-section known-part (are .0) (are .1 .0 .1) (are .1 .1 .0 .1) (are .1 .1 .1 .0 .1)))
+  section-part-walks C Λ fm known-section known-part =
+      walked 𝓤 H A section-part.ended stayed (section-part.clauses 𝓤 H A mem run) (WpFn 𝓤 H C Λ code.function)
+      (λ κs. (slice-vals, (uint-vals w64, (uint-vals w64, (uint-vals w64, tt)))))
+      (λ κs. (shr-slice-tells (named 0) (κs .0) u8, (uint-tells w64, (uint-tells w64, (uint-tells w64, tt)))))
+      (λ κs qs bounds a g are. needs 𝓤 _ _
+      (walk 𝓤 H A W mem run (κs .0) (qs .0) (a .0) (a .1 .0) (a .1 .1 .0) (a .1 .1 .1 .0) C Λ fm known-section known-part (are .0) (are .1 .0 .1) (are .1 .1 .0 .1)
+      (are .1 .1 .1 .0 .1)))
 
 section-part-meets : {M : Type 1} (𝓤 : URA M) (H : Heap 𝓤) (A : Atoms 𝓤) (W : Given 𝓤 H A) (mem : Memory → SProp 𝓤) (run : Routine → Fun 𝓤) (𝓣 : Tables 𝓤 H)
     → Triple 𝓤 (𝓣 .C #log·section-of) (SectionOf 𝓤 H A mem run) → Triple 𝓤 (𝓣 .C #log·part-of) (PartOf 𝓤 H A mem run)
     → Meets 𝓤 H A section-part.signature (WpFn 𝓤 H (𝓣 .C) (𝓣 .Λ) code.function) (section-part.spec 𝓤 H A mem run)
-section-part-meets 𝓤 H A W mem run 𝓣 known-section known-part = walk-meets 𝓤 H A section-part.ended stayed W
-    (goes-none-slice 𝓤 H A W 1 (0 ∷ []) tt (plain (λ _. u8)) yes, (goes-none 𝓤 H A W 1 (λ _. usize) yes (λ κs x f. refl), (goes-none 𝓤 H A W 1 (λ _. usize) yes (λ κs x f. refl), (goes-none 𝓤 H A W 1 (λ _. usize) yes (λ κs x f. refl), tt))))
-    (section-part.clauses 𝓤 H A mem run) (WpFn 𝓤 H (𝓣 .C) (𝓣 .Λ) code.function) (WpFn-mono 𝓤 H (W .laws) 𝓣 code.function) (section-part-walks 𝓤 H A W mem run (𝓣 .C) (𝓣 .Λ) (fmOf 𝓤 H (W .laws) 𝓣) known-section known-part)
+section-part-meets 𝓤 H A W mem run 𝓣 known-section known-part = walk-meets 𝓤 H A section-part.ended stayed W (
+  goes-none-slice 𝓤 H A W 1 (0 ∷ []) tt (plain (λ _. u8)) yes,
+  (goes-none 𝓤 H A W 1 (λ _. usize) yes (λ κs x f. refl), (goes-none 𝓤 H A W 1 (λ _. usize) yes (λ κs x f. refl), (goes-none 𝓤 H A W 1 (λ _. usize) yes (λ κs x f. refl), tt))),
+)
+    (section-part.clauses 𝓤 H A mem run) (WpFn 𝓤 H (𝓣 .C) (𝓣 .Λ) code.function) (WpFn-mono 𝓤 H (W .laws) 𝓣 code.function)
+    (section-part-walks 𝓤 H A W mem run (𝓣 .C) (𝓣 .Λ) (fmOf 𝓤 H (W .laws) 𝓣) known-section known-part)
 
 pub section-part-spec : {M : Type 1} → stated.statement M
 unfolding code.routine tablesOf

@@ -1,18 +1,14 @@
 -- `log::some_entry` meets its contract. Assumes nothing.
-use mathlib.Core.Path.{_≡_, sym, _∙_}
-use mathlib.Core.Bool.{false}
-use Prim.Native.Nat.{_≤_, _-_}
-use native.Mathlib.Nat.{le-antisymm}
+use Prim.Native.Nat.{_-_}
 use native.Mathlib.Omega.{arith}
 use borrow.Author.Needs.{needs}
-use Rattle.ranges.specs.Fold.{anyBelow}
-use Rattle.ranges.proofs.Any.{any-none, any-more, any-found}
+use Rattle.ranges.proofs.Any.{Sought, sought-none, sought-more, sought-found, sought-end}
 use Rattle.log.specs.Header.{entryFault, someEntry}
 use Rattle.log.proofs.some_entry.Statement.{statement}
 use Rattle.log.proofs.some_entry.Tie as tie
 
 abbrev Inv-loop : tie.InvT-loop
-Inv-loop log test n w₀ w = (w ≤ n) × (anyBelow (entryFault test log) w ≡ false)
+Inv-loop log test n w₀ w = Sought (entryFault test log) n w
 
 abbrev μ-loop : tie.MeasureT-loop
 μ-loop log test n w₀ w = n - w
@@ -20,18 +16,17 @@ abbrev μ-loop : tie.MeasureT-loop
 size-field-requires : tie.Need-size-field-requires Inv-loop μ-loop
 size-field-requires c κs = search needs
 
-cast-n : tie.Need-cast-n Inv-loop μ-loop
-cast-n c = search needs
-
 loop-holds : tie.Need-loop-holds Inv-loop μ-loop
-loop-holds c = (search needs, any-none _)
+loop-holds c = sought-none
 
 entry-fault-requires : tie.Need-entry-fault-requires Inv-loop μ-loop
 entry-fault-requires c κs = omega (arith, c .before .before .size-field .ensures)
 
 returns : tie.Need-returns Inv-loop μ-loop
 unfolding someEntry
-returns c = sym (any-found _ _ (c .before .before .before .loop .w) (rw (c .before .before .before .before .size-field .ensures) at (c .before .before .loop-test .taken)) (sym (c .before .entry-fault .ensures) ∙ c .if1 .taken))
+returns c =
+    sought-found (c .before .before .before .loop .inv) (c .before .before .loop-test .taken) (c .before .entry-fault .ensures) (c .if1 .taken)
+    (c .before .before .before .before .size-field .ensures)
 
 add-w : tie.Need-add-w Inv-loop μ-loop
 add-w c = omega arith
@@ -40,24 +35,12 @@ loop-less : tie.Need-loop-less Inv-loop μ-loop
 loop-less c = omega arith
 
 loop-again : tie.Need-loop-again Inv-loop μ-loop
-loop-again c = (omega arith, any-more _ _ (c .before .before .before .loop .inv .1) (sym (c .before .entry-fault .ensures) ∙ c .if1 .left))
+loop-again c = sought-more (c .before .before .before .loop .inv) (c .before .before .loop-test .taken) (c .before .entry-fault .ensures) (c .if1 .left)
 
 returns-2 : tie.Need-returns-2 Inv-loop μ-loop
 unfolding someEntry
-returns-2 c = sym (rw (le-antisymm (c .before .loop .inv .0) (c .loop-test .left), c .before .before .size-field .ensures) at (c .before .loop .inv .1))
+returns-2 c = sought-end (c .before .loop .inv) (c .loop-test .left) (c .before .before .size-field .ensures)
 
 pub some-entry-spec : {M : Type 1} → statement M
 some-entry-spec =
-    tie.close
-    (tie.spec
-    Inv-loop
-    μ-loop
-    size-field-requires
-    cast-n
-    loop-holds
-    entry-fault-requires
-    returns
-    add-w
-    loop-less
-    loop-again
-    returns-2)
+    tie.close (tie.spec Inv-loop μ-loop size-field-requires (λ c. search needs) loop-holds entry-fault-requires returns add-w loop-less loop-again returns-2)

@@ -1,19 +1,16 @@
--- `log::size_of` meets its contract. Assumes nothing.
+-- `log::worker_count` meets its contract. Assumes nothing.
 use mathlib.Core.Path.{sym, _∙_}
 use Rattle.log.proofs.Readable.{readable}
 use Rattle.log.proofs.Read.{size-read}
 use borrow.Author.Needs.{needs}
-use Rattle.log.proofs.size_of.Statement.{statement}
-use Rattle.log.proofs.size_of.Tie as tie
+use Rattle.log.proofs.worker_count.Statement.{statement}
+use Rattle.log.proofs.worker_count.Tie as tie
 
 size-field-requires : tie.Need-size-field-requires
 size-field-requires c κs = readable _ (c .before .pre) .long
 
-cast-result : tie.Need-cast-result
-cast-result c = search needs
-
 returns : tie.Need-returns
 returns c = (c .size-field .ensures ∙ sym (size-read _), rw (← c .size-field .ensures) at (readable _ (c .before .before .pre) .few))
 
-pub size-of-spec : {M : Type 1} → statement M
-size-of-spec = tie.close (tie.spec size-field-requires cast-result returns)
+pub worker-count-spec : {M : Type 1} → statement M
+worker-count-spec = tie.close (tie.spec size-field-requires (λ c. search needs) returns)
