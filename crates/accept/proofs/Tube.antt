@@ -1,19 +1,27 @@
 -- The tube log is accepted, and holds the workers, events and checkpoints that document 01 lists.
 -- Assumes nothing.
-use mathlib.Core.Path.{_≡_, refl}
+use mathlib.Core.Path.{_≡_, refl, ap}
 use Rattle.ranges.specs.Fold.{anyBelow, tabulate}
 use Rattle.bytes_le.specs.Little.{le}
-use Rattle.log.specs.Model.{size, worker, count, eventOf, checkpoints, checkpointOf, isSend, isUnlogged, isLogged, isReceive}
-use Rattle.log.specs.Layout.{field, section, eventSection, checkpointSection, eventRecord, spareOf, checkpointRecord, workerOf, logOf}
-use Rattle.log.specs.Header.{lengthFault, formFault, sizeFault, headerFault, limitFault, outside, sectionFault, entryFault, someEntry, entries, layout}
-use Rattle.accept.specs.Records.{kindFault, peerFault, sendFault, fieldFault, stampFault, named, sourceFault, orderFault, eventFault, checkpointFault, recordFault, records, workerFault, someRecord}
-use Rattle.accept.specs.Refusal.{eventsNumber, content, orElse, refusal}
+use Rattle.log.specs.Model.{Log, workerCount, worker, eventCount, eventOf, checkpointCount, checkpointOf, isSend, isUnlogged, isLogged, isReceive}
+use Rattle.log.specs.Layout.{field, section, eventSection, checkpointSection, eventRecord, checkpointRecord, workerOf, workersOf, logOf}
+use Rattle.log.specs.Header.{lengthFault, formFault, sizeFault, headerFault, limitFault, outside, sectionFault, entryFault, someEntry, entriesRefusal, layoutRefusal}
+use Rattle.accept.specs.Records.{kindFault, peerFault, sendFault, fieldFault, stampFault, sendOf, sourceFault, orderFault, anyFault, eventFault}
+use Rattle.accept.specs.Records.{checkpointFault, recordFault, recordCount, workerFault, someRecord}
+use Rattle.lent.specs.Lent.{orElse}
+use Rattle.accept.specs.Refusal.{eventsRefusal, contentRefusal, logRefusal}
 use Rattle.accept.specs.Tube.{tube, tubeLog}
 
 pub tube-model : logOf tube ≡ tubeLog
-unfolding le tabulate field section eventSection checkpointSection eventRecord checkpointRecord workerOf logOf
+unfolding le tabulate field section eventSection checkpointSection eventRecord checkpointRecord workerOf workersOf
 tube-model = refl
 
-pub tube-accepted : refusal tube ≡ 0
-unfolding anyBelow le tabulate size worker count eventOf checkpoints checkpointOf isSend isUnlogged isLogged isReceive field section eventSection checkpointSection eventRecord spareOf checkpointRecord workerOf logOf lengthFault formFault sizeFault headerFault limitFault outside sectionFault entryFault someEntry entries layout kindFault peerFault sendFault fieldFault stampFault named sourceFault orderFault eventFault checkpointFault recordFault records workerFault someRecord eventsNumber content orElse refusal
+pub tube-workers : workersOf tube ≡ tubeLog .workers
+tube-workers = ap (λ (l : Log). l .workers) tube-model
+
+pub tube-accepted : logRefusal tube ≡ 0
+unfolding anyBelow le tabulate workerCount worker eventCount eventOf checkpointCount checkpointOf isSend isUnlogged isLogged isReceive field section
+    eventSection checkpointSection eventRecord checkpointRecord workerOf workersOf lengthFault formFault sizeFault headerFault limitFault outside
+    sectionFault entryFault someEntry entriesRefusal layoutRefusal kindFault peerFault sendFault fieldFault stampFault sendOf sourceFault orderFault
+    anyFault eventFault checkpointFault recordFault recordCount workerFault someRecord eventsRefusal contentRefusal orElse logRefusal
 tube-accepted = refl

@@ -1,24 +1,31 @@
--- The refusal of a log: the smallest number of 1 to 11 that applies, or 0.
+-- The refusal of a log, and what a call is given of its bytes.
 -- Assumes nothing.
 use mathlib.Core.Bool.{cond}
 use mathlib.Core.List.{List}
 use Prim.Native.Nat.{ℕ}
-use lib.Dec.{eqb}
-use Rattle.log.specs.Header.{layout}
+use Rattle.lent.specs.Lent.{orElse}
+use Rattle.log.specs.Header.{layoutRefusal}
+use Rattle.log.specs.Layout.{workersOf, logOf}
+use Rattle.log.specs.Model.{Log, Workers}
 use Rattle.accept.specs.Records.{someRecord}
 
 -- 7 to 10
-unfoldable pub eventsNumber : List ℕ → ℕ
-eventsNumber s = cond (someRecord 7 s) 7 (cond (someRecord 8 s) 8 (cond (someRecord 9 s) 9 (cond (someRecord 10 s) 10 0)))
-
--- "The smallest number that applies is given; each condition presumes the lower ones passed": the first number that is not 0
-unfoldable pub orElse : ℕ → ℕ → ℕ
-orElse first second = cond (eqb first 0) second first
+unfoldable pub eventsRefusal : Workers → ℕ
+eventsRefusal log = cond (someRecord 7 log) 7 (cond (someRecord 8 log) 8 (cond (someRecord 9 log) 9 (cond (someRecord 10 log) 10 0)))
 
 -- 7 to 11: 0 where each record is as it should be
-unfoldable pub content : List ℕ → ℕ
-content s = orElse (eventsNumber s) (cond (someRecord 11 s) 11 0)
+unfoldable pub contentRefusal : Log → ℕ
+contentRefusal log = orElse (eventsRefusal (log .workers)) (cond (someRecord 11 (log .workers)) 11 0)
 
--- 1 to 11, and 0 where the log is accepted
-unfoldable pub refusal : List ℕ → ℕ
-refusal s = orElse (layout s) (content s)
+-- 1 to 11, and 0 where the log is accepted: the layout of the bytes, then the content of the log
+unfoldable pub logRefusal : List ℕ → ℕ
+logRefusal s = orElse (layoutRefusal s) (contentRefusal (logOf s))
+
+-- what a call is given of a log: the number that refuses it, and its workers. Every answer is over this, so two accepted logs with equal
+-- workers have the same answers.
+pub record Given : Type 0 where
+  pub refusal : ℕ
+  pub workers : Workers
+
+abbrev pub given : List ℕ → Given
+given s = record { refusal = logRefusal s; workers = workersOf s }

@@ -3,17 +3,17 @@
 use log::Checkpoint;
 use log::Event;
 ghost use mathlib.Core.Path.{_≡_};
-ghost use mathlib.Core.Bool.{_||_};
 ghost use Prim.Native.Nat.{_+_, _<_};
-ghost use Rattle.log.specs.Header.{layout};
-ghost use Rattle.log.specs.Model.{count, eventOf};
-ghost use Rattle.log.specs.Layout.{logOf};
-ghost use Rattle.accept.specs.Records.{kindFault, peerFault, sendFault, fieldFault, stampFault, named, sourceFault, orderFault, eventFault, checkpointFault, recordFault, records, workerFault, someRecord};
-ghost use Rattle.accept.specs.Refusal.{eventsNumber, content, refusal};
+ghost use Rattle.log.specs.Header.{layoutRefusal};
+ghost use Rattle.log.specs.Model.{eventCount, eventOf};
+ghost use Rattle.log.specs.Layout.{workersOf, logOf};
+ghost use Rattle.accept.specs.Records.{kindFault, peerFault, sendFault, fieldFault, stampFault, sendOf, sourceFault, orderFault};
+ghost use Rattle.accept.specs.Records.{anyFault, eventFault, checkpointFault, recordFault, recordCount, workerFault, someRecord};
+ghost use Rattle.accept.specs.Refusal.{eventsRefusal, contentRefusal, logRefusal};
 
 // Whether the kind is none of 1, 2 and 3.
 fn kind_fault(e: Event) -> bool
-    ensures { λ r. ⌜ r ≡ kindFault e ⌝ }
+    ensures answer { λ r. ⌜ r ≡ kindFault e ⌝ }
 {
     if log::is_send(e) {
         return false;
@@ -23,20 +23,20 @@ fn kind_fault(e: Event) -> bool
 
 // Whether the peer of an event of worker w is w or no worker.
 fn peer_fault(log: &[u8], w: usize, e: Event) -> bool
-    requires { ⌜ layout (now log) ≡ 0 ⌝ }
-    ensures { λ r. ⌜ r ≡ peerFault (logOf (now (log .entry))) w e ⌝ }
+    requires { ⌜ layoutRefusal (now log) ≡ 0 ⌝ }
+    ensures answer { λ r. ⌜ r ≡ peerFault (workersOf (now (log .entry))) w e ⌝ }
 {
     let peer = e.peer as usize;
     if peer == w {
         return true;
     }
-    log::size_of(log) <= peer
+    log::worker_count(log) <= peer
 }
 
 // Whether the peer event is not 0 for a send, or no event of the peer for a receive.
 fn send_fault(log: &[u8], e: Event) -> bool
-    requires { ⌜ layout (now log) ≡ 0 ⌝ }
-    ensures { λ r. ⌜ r ≡ sendFault (logOf (now (log .entry))) e ⌝ }
+    requires { ⌜ layoutRefusal (now log) ≡ 0 ⌝ }
+    ensures answer { λ r. ⌜ r ≡ sendFault (workersOf (now (log .entry))) e ⌝ }
 {
     let send = e.send;
     if log::is_send(e) {
@@ -45,15 +45,15 @@ fn send_fault(log: &[u8], e: Event) -> bool
     if send == 0 {
         return true;
     }
-    log::count_of(log, e.peer as usize) < send
+    log::event_count(log, e.peer as usize) < send
 }
 
-// Test 7 on event k + 1 of worker w, which is e.
-fn field_fault(log: &[u8], w: usize, k: u32, e: Event) -> bool
-    requires { ⌜ (layout (now log) ≡ 0) × (k < count (logOf (now log)) w) ⌝ }
-    ensures { λ r. ⌜ r ≡ fieldFault (now (log .entry)) w k e ⌝ }
+// Test 7 on an event of worker w.
+fn field_fault(log: &[u8], w: usize, e: Event) -> bool
+    requires { ⌜ layoutRefusal (now log) ≡ 0 ⌝ }
+    ensures answer { λ r. ⌜ r ≡ fieldFault (workersOf (now (log .entry))) w e ⌝ }
 {
-    if log::spare_at(log, w, k) != 0 {
+    if e.spare != 0 {
         return true;
     }
     if kind_fault(e) {
@@ -67,30 +67,30 @@ fn field_fault(log: &[u8], w: usize, k: u32, e: Event) -> bool
 
 // Test 8 on event k + 1 of worker w, which is e.
 fn stamp_fault(log: &[u8], w: usize, k: u32, e: Event) -> bool
-    requires { ⌜ layout (now log) ≡ 0 ⌝ }
-    ensures { λ r. ⌜ r ≡ stampFault (logOf (now (log .entry))) w k e ⌝ }
+    requires { ⌜ layoutRefusal (now log) ≡ 0 ⌝ }
+    ensures answer { λ r. ⌜ r ≡ stampFault (workersOf (now (log .entry))) w k e ⌝ }
 {
     let before = log::event_at(log, w, k);
     e.stamp <= before.stamp
 }
 
 // The event that a receive names.
-fn named_by(log: &[u8], e: Event) -> Event
-    requires { ⌜ layout (now log) ≡ 0 ⌝ }
-    ensures { λ r. ⌜ r ≡ named (logOf (now (log .entry))) e ⌝ }
+fn send_of(log: &[u8], e: Event) -> Event
+    requires { ⌜ layoutRefusal (now log) ≡ 0 ⌝ }
+    ensures answer { λ r. ⌜ r ≡ sendOf (workersOf (now (log .entry))) e ⌝ }
 {
     log::event_at(log, e.peer as usize, e.send)
 }
 
 // Test 9 on an event of worker w.
 fn source_fault(log: &[u8], w: usize, e: Event) -> bool
-    requires { ⌜ layout (now log) ≡ 0 ⌝ }
-    ensures { λ r. ⌜ r ≡ sourceFault (logOf (now (log .entry))) w e ⌝ }
+    requires { ⌜ layoutRefusal (now log) ≡ 0 ⌝ }
+    ensures answer { λ r. ⌜ r ≡ sourceFault (workersOf (now (log .entry))) w e ⌝ }
 {
     if !log::is_receive(e) {
         return false;
     }
-    let source = named_by(log, e);
+    let source = send_of(log, e);
     if !log::is_send(source) {
         return true;
     }
@@ -99,22 +99,22 @@ fn source_fault(log: &[u8], w: usize, e: Event) -> bool
 
 // Test 10 on an event.
 fn order_fault(log: &[u8], e: Event) -> bool
-    requires { ⌜ layout (now log) ≡ 0 ⌝ }
-    ensures { λ r. ⌜ r ≡ orderFault (logOf (now (log .entry))) e ⌝ }
+    requires { ⌜ layoutRefusal (now log) ≡ 0 ⌝ }
+    ensures answer { λ r. ⌜ r ≡ orderFault (workersOf (now (log .entry))) e ⌝ }
 {
     if !log::is_receive(e) {
         return false;
     }
-    let source = named_by(log, e);
+    let source = send_of(log, e);
     e.stamp <= source.stamp
 }
 
 // Whether event k + 1 of worker w, which is e, fails one of the tests 7 to 10.
 fn any_fault(log: &[u8], w: usize, k: u32, e: Event) -> bool
-    requires { ⌜ (layout (now log) ≡ 0) × (k < count (logOf (now log)) w) ⌝ }
-    ensures { λ r. ⌜ r ≡ (fieldFault (now (log .entry)) w k e || stampFault (logOf (now (log .entry))) w k e || sourceFault (logOf (now (log .entry))) w e || orderFault (logOf (now (log .entry))) e) ⌝ }
+    requires { ⌜ (layoutRefusal (now log) ≡ 0) × (k < eventCount (workersOf (now log)) w) ⌝ }
+    ensures answer { λ r. ⌜ r ≡ anyFault (workersOf (now (log .entry))) w k e ⌝ }
 {
-    if field_fault(log, w, k, e) {
+    if field_fault(log, w, e) {
         return true;
     }
     if stamp_fault(log, w, k, e) {
@@ -128,12 +128,12 @@ fn any_fault(log: &[u8], w: usize, k: u32, e: Event) -> bool
 
 // Test 7, 8, 9 or 10 on event k + 1 of worker w, and any of them for another number.
 fn event_fault(log: &[u8], test: u32, w: usize, k: u32) -> bool
-    requires { ⌜ (layout (now log) ≡ 0) × (k < count (logOf (now log)) w) ⌝ }
-    ensures { λ r. ⌜ r ≡ eventFault test (now (log .entry)) w k (eventOf (logOf (now (log .entry))) w (k + 1)) ⌝ }
+    requires { ⌜ (layoutRefusal (now log) ≡ 0) × (k < eventCount (workersOf (now log)) w) ⌝ }
+    ensures answer { λ r. ⌜ r ≡ eventFault test (workersOf (now (log .entry))) w k (eventOf (workersOf (now (log .entry))) w (k + 1)) ⌝ }
 {
     let e = log::event_at(log, w, k + 1);
     if test == 7 {
-        return field_fault(log, w, k, e);
+        return field_fault(log, w, e);
     }
     if test == 8 {
         return stamp_fault(log, w, k, e);
@@ -149,10 +149,10 @@ fn event_fault(log: &[u8], test: u32, w: usize, k: u32) -> bool
 
 // Test 11 on a checkpoint of worker w and the one before it.
 fn checkpoint_fault(log: &[u8], w: usize, before: Checkpoint, c: Checkpoint) -> bool
-    requires { ⌜ layout (now log) ≡ 0 ⌝ }
-    ensures { λ r. ⌜ r ≡ checkpointFault (logOf (now (log .entry))) w before c ⌝ }
+    requires { ⌜ layoutRefusal (now log) ≡ 0 ⌝ }
+    ensures answer { λ r. ⌜ r ≡ checkpointFault (workersOf (now (log .entry))) w before c ⌝ }
 {
-    if log::count_of(log, w) < c.index {
+    if log::event_count(log, w) < c.index {
         return true;
     }
     if c.index < before.index {
@@ -162,20 +162,20 @@ fn checkpoint_fault(log: &[u8], w: usize, before: Checkpoint, c: Checkpoint) -> 
 }
 
 // The number of records of worker w that a test looks at.
-fn records_of(log: &[u8], test: u32, w: usize) -> u32
-    requires { ⌜ layout (now log) ≡ 0 ⌝ }
-    ensures { λ r. ⌜ r ≡ records test (now (log .entry)) w ⌝ }
+fn record_count(log: &[u8], test: u32, w: usize) -> u32
+    requires { ⌜ layoutRefusal (now log) ≡ 0 ⌝ }
+    ensures answer { λ r. ⌜ r ≡ recordCount test (workersOf (now (log .entry))) w ⌝ }
 {
     if test == 11 {
-        return log::checkpoints_of(log, w);
+        return log::checkpoint_count(log, w);
     }
-    log::count_of(log, w)
+    log::event_count(log, w)
 }
 
 // Test 7 to 11 on record k of worker w.
 fn record_fault(log: &[u8], test: u32, w: usize, k: u32) -> bool
-    requires { ⌜ (layout (now log) ≡ 0) × (k < records test (now log) w) ⌝ }
-    ensures { λ r. ⌜ r ≡ recordFault test (now (log .entry)) w k ⌝ }
+    requires { ⌜ (layoutRefusal (now log) ≡ 0) × (k < recordCount test (workersOf (now log)) w) ⌝ }
+    ensures answer { λ r. ⌜ r ≡ recordFault test (workersOf (now (log .entry))) w k ⌝ }
 {
     if test == 11 {
         let before = log::checkpoint_at(log, w, k);
@@ -187,12 +187,12 @@ fn record_fault(log: &[u8], test: u32, w: usize, k: u32) -> bool
 
 // Whether some record of worker w has the fault of this number.
 fn worker_fault(log: &[u8], test: u32, w: usize) -> bool
-    requires { ⌜ layout (now log) ≡ 0 ⌝ }
-    ensures { λ r. ⌜ r ≡ workerFault test (now (log .entry)) w ⌝ }
+    requires { ⌜ layoutRefusal (now log) ≡ 0 ⌝ }
+    ensures answer { λ r. ⌜ r ≡ workerFault test (workersOf (now (log .entry))) w ⌝ }
 {
-    let number = records_of(log, test, w);
+    let count = record_count(log, test, w);
     let mut k: u32 = 0;
-    while k < number {
+    while k < count {
         if record_fault(log, test, w, k) {
             return true;
         }
@@ -203,10 +203,10 @@ fn worker_fault(log: &[u8], test: u32, w: usize) -> bool
 
 // Whether some record of the log has the fault of this number.
 fn some_record(log: &[u8], test: u32) -> bool
-    requires { ⌜ layout (now log) ≡ 0 ⌝ }
-    ensures { λ r. ⌜ r ≡ someRecord test (now (log .entry)) ⌝ }
+    requires { ⌜ layoutRefusal (now log) ≡ 0 ⌝ }
+    ensures answer { λ r. ⌜ r ≡ someRecord test (workersOf (now (log .entry))) ⌝ }
 {
-    let n = log::size_of(log);
+    let n = log::worker_count(log);
     let mut w: usize = 0;
     while w < n {
         if worker_fault(log, test, w) {
@@ -222,8 +222,8 @@ const ANY: u32 = 0;
 
 // Tests 7 to 10: the number of the first that fails, or 0.
 fn events_refusal(log: &[u8]) -> u32
-    requires { ⌜ layout (now log) ≡ 0 ⌝ }
-    ensures { λ r. ⌜ r ≡ eventsNumber (now (log .entry)) ⌝ }
+    requires { ⌜ layoutRefusal (now log) ≡ 0 ⌝ }
+    ensures answer { λ r. ⌜ r ≡ eventsRefusal (workersOf (now (log .entry))) ⌝ }
 {
     if !some_record(log, ANY) {
         return 0;
@@ -245,12 +245,12 @@ fn events_refusal(log: &[u8]) -> u32
 
 // Tests 7 to 11: the number of the first that fails, or 0.
 fn content_refusal(log: &[u8]) -> u32
-    requires { ⌜ layout (now log) ≡ 0 ⌝ }
-    ensures { λ r. ⌜ r ≡ content (now (log .entry)) ⌝ }
+    requires { ⌜ layoutRefusal (now log) ≡ 0 ⌝ }
+    ensures answer { λ r. ⌜ r ≡ contentRefusal (logOf (now (log .entry))) ⌝ }
 {
-    let events = events_refusal(log);
-    if events != 0 {
-        return events;
+    let refusal = events_refusal(log);
+    if refusal != 0 {
+        return refusal;
     }
     if some_record(log, 11) {
         return 11;
@@ -260,11 +260,11 @@ fn content_refusal(log: &[u8]) -> u32
 
 // 0 for an accepted log, else the number that refuses it.
 pub fn accept(log: &[u8]) -> u32
-    ensures { λ r. ⌜ r ≡ refusal (now (log .entry)) ⌝ }
+    ensures answer { λ r. ⌜ r ≡ logRefusal (now (log .entry)) ⌝ }
 {
-    let number = log::layout_refusal(log);
-    if number != 0 {
-        return number;
+    let refusal = log::layout_refusal(log);
+    if refusal != 0 {
+        return refusal;
     }
     content_refusal(log)
 }

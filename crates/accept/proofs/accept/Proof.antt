@@ -1,25 +1,23 @@
 -- `accept::accept` meets its contract. Assumes nothing.
 use mathlib.Core.Path.{sym, _∙_}
 use borrow.Author.Tests.{eq-eqb, ne-eqb}
-use Rattle.accept.specs.Refusal.{orElse, refusal}
+use Rattle.lent.specs.Lent.{orElse}
+use Rattle.accept.specs.Refusal.{logRefusal}
 use borrow.Author.Needs.{needs}
 use Rattle.accept.proofs.accept.Statement.{statement}
 use Rattle.accept.proofs.accept.Tie as tie
 
-layout-refusal-requires : tie.Need-layout-refusal-requires
-layout-refusal-requires c κs = search needs
-
 returns : tie.Need-returns
-unfolding refusal orElse
+unfolding logRefusal orElse
 returns c = rw (← c .before .layout-refusal .ensures, ne-eqb _ _ (c .if1 .taken))
 
 content-refusal-requires : tie.Need-content-refusal-requires
 content-refusal-requires c κs = sym (c .before .layout-refusal .ensures) ∙ c .if1 .left
 
 returns-2 : tie.Need-returns-2
-unfolding refusal orElse
+unfolding logRefusal orElse
 returns-2 c = rw (← c .before .before .layout-refusal .ensures, eq-eqb _ _ (c .before .if1 .left)) (c .content-refusal .ensures)
 
 pub accept-spec : {M : Type 1} → statement M
 accept-spec =
-    tie.close (tie.spec layout-refusal-requires returns content-refusal-requires returns-2)
+    tie.close (tie.spec (λ c κs. search needs) returns content-refusal-requires returns-2)

@@ -5,20 +5,22 @@ use borrow.Author.Needs.{needs}
 use Rattle.accept.proofs.checkpoint_fault.Statement.{statement}
 use Rattle.accept.proofs.checkpoint_fault.Tie as tie
 
-count-of-requires : tie.Need-count-of-requires
-count-of-requires c κs = search needs
+event-count-requires : tie.Need-event-count-requires
+event-count-requires c κs = search needs
 
 returns : tie.Need-returns
 unfolding checkpointFault
-returns c = rw (← c .before .before .count-of .ensures .0, lt-ltb _ _ (c .if1 .taken))
+returns c = rw (← c .before .before .event-count .ensures .0, lt-ltb _ _ (c .if1 .taken))
 
 returns-2 : tie.Need-returns-2
 unfolding checkpointFault
-returns-2 c = rw (← c .before .before .before .before .before .count-of .ensures .0, le-ltb _ _ (c .before .before .before .if1 .left), lt-ltb _ _ (c .if2 .taken))
+returns-2 c = rw (← c .before .before .before .before .before .event-count .ensures .0, le-ltb _ _ (c .before .before .before .if1 .left), lt-ltb _ _ (c .if2 .taken))
 
 returns-3 : tie.Need-returns-3
 unfolding checkpointFault
-returns-3 c = rw (← c .before .before .before .before .before .before .before .count-of .ensures .0, le-ltb _ _ (c .before .before .before .before .before .if1 .left), le-ltb _ _ (c .before .before .if2 .left))
+returns-3 c =
+    let first = c .before .before .before .before .before in
+    rw (← first .before .before .event-count .ensures .0, le-ltb _ _ (first .if1 .left), le-ltb _ _ (c .before .before .if2 .left))
 
 pub checkpoint-fault-spec : {M : Type 1} → statement M
-checkpoint-fault-spec = tie.close (tie.spec count-of-requires returns returns-2 returns-3)
+checkpoint-fault-spec = tie.close (tie.spec event-count-requires returns returns-2 returns-3)

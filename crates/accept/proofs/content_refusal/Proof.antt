@@ -1,28 +1,26 @@
 -- `accept::content_refusal` meets its contract. Assumes nothing.
 use borrow.Author.Tests.{eq-eqb, ne-eqb}
-use Rattle.accept.specs.Refusal.{content, orElse}
+use Rattle.lent.specs.Lent.{orElse}
+use Rattle.accept.specs.Refusal.{contentRefusal}
 use borrow.Author.Needs.{needs}
 use Rattle.accept.proofs.content_refusal.Statement.{statement}
 use Rattle.accept.proofs.content_refusal.Tie as tie
 
-events-refusal-requires : tie.Need-events-refusal-requires
-events-refusal-requires c κs = search needs
-
 returns : tie.Need-returns
-unfolding content orElse
+unfolding contentRefusal orElse
 returns c = rw (← c .before .events-refusal .ensures, ne-eqb _ _ (c .if1 .taken))
 
 some-record-requires : tie.Need-some-record-requires
 some-record-requires c κs = search needs
 
 returns-2 : tie.Need-returns-2
-unfolding content orElse
+unfolding contentRefusal orElse
 returns-2 c = rw (← c .before .before .before .events-refusal .ensures, eq-eqb _ _ (c .before .before .if1 .left), ← c .before .some-record .ensures, c .if2 .taken)
 
 returns-3 : tie.Need-returns-3
-unfolding content orElse
+unfolding contentRefusal orElse
 returns-3 c = rw (← c .before .before .before .events-refusal .ensures, eq-eqb _ _ (c .before .before .if1 .left), ← c .before .some-record .ensures, c .if2 .left)
 
 pub content-refusal-spec : {M : Type 1} → statement M
 content-refusal-spec =
-    tie.close (tie.spec events-refusal-requires returns some-record-requires returns-2 returns-3)
+    tie.close (tie.spec (λ c κs. search needs) returns some-record-requires returns-2 returns-3)

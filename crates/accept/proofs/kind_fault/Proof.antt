@@ -4,9 +4,6 @@ use borrow.Author.Needs.{needs}
 use Rattle.accept.proofs.kind_fault.Statement.{statement}
 use Rattle.accept.proofs.kind_fault.Tie as tie
 
-is-send-requires : tie.Need-is-send-requires
-is-send-requires c κs = search needs
-
 returns : tie.Need-returns
 unfolding kindFault
 returns c = rw (← c .before .is-send .ensures, c .if1 .taken)
@@ -19,4 +16,4 @@ unfolding kindFault
 returns-2 c = rw (← c .before .before .is-send .ensures, c .before .if1 .left, ← c .is-receive .ensures)
 
 pub kind-fault-spec : {M : Type 1} → statement M
-kind-fault-spec = tie.close (tie.spec is-send-requires returns is-receive-requires returns-2)
+kind-fault-spec = tie.close (tie.spec (λ c κs. search needs) returns is-receive-requires returns-2)

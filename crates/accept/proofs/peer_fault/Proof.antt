@@ -5,19 +5,16 @@ use borrow.Author.Needs.{needs}
 use Rattle.accept.proofs.peer_fault.Statement.{statement}
 use Rattle.accept.proofs.peer_fault.Tie as tie
 
-cast-peer : tie.Need-cast-peer
-cast-peer c = search needs
-
 returns : tie.Need-returns
 unfolding peerFault
 returns c = rw (eq-eqb _ _ (c .if1 .taken))
 
-size-of-requires : tie.Need-size-of-requires
-size-of-requires c κs = search needs
+worker-count-requires : tie.Need-worker-count-requires
+worker-count-requires c κs = search needs
 
 returns-2 : tie.Need-returns-2
 unfolding peerFault
-returns-2 c = rw (ne-eqb _ _ (c .before .if1 .left), ← c .size-of .ensures .0)
+returns-2 c = rw (ne-eqb _ _ (c .before .if1 .left), ← c .worker-count .ensures .0)
 
 pub peer-fault-spec : {M : Type 1} → statement M
-peer-fault-spec = tie.close (tie.spec cast-peer returns size-of-requires returns-2)
+peer-fault-spec = tie.close (tie.spec (λ c. search needs) returns worker-count-requires returns-2)

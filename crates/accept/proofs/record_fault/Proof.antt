@@ -2,29 +2,20 @@
 use borrow.Author.Tests.{eq-eqb, ne-eqb}
 use native.Mathlib.Omega.{arith}
 use Rattle.accept.proofs.Bound.{records-bound}
-use Rattle.accept.specs.Records.{records, recordFault}
+use Rattle.accept.specs.Records.{recordCount, recordFault}
 use borrow.Author.Needs.{needs}
 use Rattle.accept.proofs.record_fault.Statement.{statement}
 use Rattle.accept.proofs.record_fault.Tie as tie
 
-checkpoint-at-requires : tie.Need-checkpoint-at-requires
-checkpoint-at-requires c κs = search needs
-
 add-checkpoint-at : tie.Need-add-checkpoint-at
 add-checkpoint-at c = omega (arith, records-bound _ (c .before .before .before .pre .0) (c .before .before .before .args .test) (c .before .before .before .args .w))
-
-checkpoint-at-requires-2 : tie.Need-checkpoint-at-requires-2
-checkpoint-at-requires-2 c κs = search needs
-
-checkpoint-fault-requires : tie.Need-checkpoint-fault-requires
-checkpoint-fault-requires c κs = search needs
 
 returns : tie.Need-returns
 unfolding recordFault
 returns c = rw (eq-eqb _ _ (c .before .before .before .if1 .taken), ← c .before .before .checkpoint-at .ensures, ← c .before .checkpoint-at2 .ensures) (c .checkpoint-fault .ensures)
 
 event-fault-requires : tie.Need-event-fault-requires
-unfolding records
+unfolding recordCount
 event-fault-requires c κs = (c .before .before .pre .0, rw (ne-eqb _ _ (c .if1 .left)) at (c .before .before .pre .1))
 
 returns-2 : tie.Need-returns-2
@@ -33,12 +24,4 @@ returns-2 c = rw (ne-eqb _ _ (c .before .if1 .left)) (c .event-fault .ensures)
 
 pub record-fault-spec : {M : Type 1} → statement M
 record-fault-spec =
-    tie.close
-    (tie.spec
-    checkpoint-at-requires
-    add-checkpoint-at
-    checkpoint-at-requires-2
-    checkpoint-fault-requires
-    returns
-    event-fault-requires
-    returns-2)
+    tie.close (tie.spec (λ c κs. search needs) add-checkpoint-at (λ c κs. search needs) (λ c κs. search needs) returns event-fault-requires returns-2)

@@ -16,17 +16,13 @@ returns-2 : tie.Need-returns-2
 unfolding sendFault
 returns-2 c = rw (← c .before .before .is-send .ensures, c .before .if1 .left, eq-eqb _ _ (c .if2 .taken))
 
-cast-count-of : tie.Need-cast-count-of
-cast-count-of c = search needs
-
-count-of-requires : tie.Need-count-of-requires
-count-of-requires c κs = search needs
+event-count-requires : tie.Need-event-count-requires
+event-count-requires c κs = search needs
 
 returns-3 : tie.Need-returns-3
 unfolding sendFault
-returns-3 c = rw (← c .before .before .before .before .is-send .ensures, c .before .before .before .if1 .left, ne-eqb _ _ (c .before .before .if2 .left), ← c .count-of .ensures .0)
+returns-3 c = rw (← c .before .before .before .before .is-send .ensures, c .before .before .before .if1 .left, ne-eqb _ _ (c .before .before .if2 .left), ← c .event-count .ensures .0)
 
 pub send-fault-spec : {M : Type 1} → statement M
 send-fault-spec =
-    tie.close
-    (tie.spec is-send-requires returns returns-2 cast-count-of count-of-requires returns-3)
+    tie.close (tie.spec is-send-requires returns returns-2 (λ c. search needs) event-count-requires returns-3)

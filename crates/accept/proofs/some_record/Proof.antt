@@ -1,34 +1,33 @@
 -- `accept::some_record` meets its contract. Assumes nothing.
-use mathlib.Core.Path.{_≡_, sym, _∙_}
-use mathlib.Core.Bool.{false}
-use Prim.Native.Nat.{_≤_, _-_}
-use native.Mathlib.Nat.{le-antisymm}
+use Prim.Native.Nat.{_-_}
 use native.Mathlib.Omega.{arith}
 use borrow.Author.Needs.{needs}
-use Rattle.ranges.specs.Fold.{anyBelow}
-use Rattle.ranges.proofs.Any.{any-none, any-more, any-found}
+use Rattle.log.specs.Layout.{workersOf}
+use Rattle.ranges.proofs.Any.{Sought, sought-none, sought-more, sought-found, sought-end}
 use Rattle.accept.specs.Records.{workerFault, someRecord}
 use Rattle.accept.proofs.some_record.Statement.{statement}
 use Rattle.accept.proofs.some_record.Tie as tie
 
 abbrev Inv-loop : tie.InvT-loop
-Inv-loop log test n w₀ w = (w ≤ n) × (anyBelow (workerFault test log) w ≡ false)
+Inv-loop log test n w₀ w = Sought (workerFault test (workersOf log)) n w
 
 abbrev μ-loop : tie.MeasureT-loop
 μ-loop log test n w₀ w = n - w
 
-size-of-requires : tie.Need-size-of-requires Inv-loop μ-loop
-size-of-requires c κs = search needs
+worker-count-requires : tie.Need-worker-count-requires Inv-loop μ-loop
+worker-count-requires c κs = search needs
 
 loop-holds : tie.Need-loop-holds Inv-loop μ-loop
-loop-holds c = (search needs, any-none _)
+loop-holds c = sought-none
 
 worker-fault-requires : tie.Need-worker-fault-requires Inv-loop μ-loop
 worker-fault-requires c κs = c .before .before .before .before .pre
 
 returns : tie.Need-returns Inv-loop μ-loop
 unfolding someRecord
-returns c = sym (any-found _ _ (c .before .before .before .loop .w) (rw (c .before .before .before .before .size-of .ensures .0) at (c .before .before .loop-test .taken)) (sym (c .before .worker-fault .ensures) ∙ c .if1 .taken))
+returns c =
+    sought-found (c .before .before .before .loop .inv) (c .before .before .loop-test .taken) (c .before .worker-fault .ensures) (c .if1 .taken)
+    (c .before .before .before .before .worker-count .ensures .0)
 
 add-w : tie.Need-add-w Inv-loop μ-loop
 add-w c = omega arith
@@ -37,11 +36,11 @@ loop-less : tie.Need-loop-less Inv-loop μ-loop
 loop-less c = omega arith
 
 loop-again : tie.Need-loop-again Inv-loop μ-loop
-loop-again c = (omega arith, any-more _ _ (c .before .before .before .loop .inv .1) (sym (c .before .worker-fault .ensures) ∙ c .if1 .left))
+loop-again c = sought-more (c .before .before .before .loop .inv) (c .before .before .loop-test .taken) (c .before .worker-fault .ensures) (c .if1 .left)
 
 returns-2 : tie.Need-returns-2 Inv-loop μ-loop
 unfolding someRecord
-returns-2 c = sym (rw (le-antisymm (c .before .loop .inv .0) (c .loop-test .left), c .before .before .size-of .ensures .0) at (c .before .loop .inv .1))
+returns-2 c = sought-end (c .before .loop .inv) (c .loop-test .left) (c .before .before .worker-count .ensures .0)
 
 pub some-record-spec : {M : Type 1} → statement M
 some-record-spec =
@@ -49,7 +48,7 @@ some-record-spec =
     (tie.spec
     Inv-loop
     μ-loop
-    size-of-requires
+    worker-count-requires
     loop-holds
     worker-fault-requires
     returns

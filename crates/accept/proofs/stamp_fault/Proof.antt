@@ -4,12 +4,9 @@ use borrow.Author.Needs.{needs}
 use Rattle.accept.proofs.stamp_fault.Statement.{statement}
 use Rattle.accept.proofs.stamp_fault.Tie as tie
 
-event-at-requires : tie.Need-event-at-requires
-event-at-requires c κs = search needs
-
 returns : tie.Need-returns
 unfolding stampFault
 returns c = rw (← c .before .before .event-at .ensures)
 
 pub stamp-fault-spec : {M : Type 1} → statement M
-stamp-fault-spec = tie.close (tie.spec event-at-requires returns)
+stamp-fault-spec = tie.close (tie.spec (λ c κs. search needs) returns)

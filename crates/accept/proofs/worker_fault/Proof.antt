@@ -1,34 +1,33 @@
 -- `accept::worker_fault` meets its contract. Assumes nothing.
-use mathlib.Core.Path.{_≡_, sym, _∙_}
-use mathlib.Core.Bool.{false}
-use Prim.Native.Nat.{_≤_, _-_}
-use native.Mathlib.Nat.{le-antisymm}
+use Prim.Native.Nat.{_-_}
 use native.Mathlib.Omega.{arith}
 use borrow.Author.Needs.{needs}
-use Rattle.ranges.specs.Fold.{anyBelow}
-use Rattle.ranges.proofs.Any.{any-none, any-more, any-found}
+use Rattle.log.specs.Layout.{workersOf}
+use Rattle.ranges.proofs.Any.{Sought, sought-none, sought-more, sought-found, sought-end}
 use Rattle.accept.specs.Records.{recordFault, workerFault}
 use Rattle.accept.proofs.worker_fault.Statement.{statement}
 use Rattle.accept.proofs.worker_fault.Tie as tie
 
 abbrev Inv-loop : tie.InvT-loop
-Inv-loop log test w number k₀ k = (k ≤ number) × (anyBelow (recordFault test log w) k ≡ false)
+Inv-loop log test w count k₀ k = Sought (recordFault test (workersOf log) w) count k
 
 abbrev μ-loop : tie.MeasureT-loop
-μ-loop log test w number k₀ k = number - k
+μ-loop log test w count k₀ k = count - k
 
-records-of-requires : tie.Need-records-of-requires Inv-loop μ-loop
-records-of-requires c κs = search needs
+record-count-requires : tie.Need-record-count-requires Inv-loop μ-loop
+record-count-requires c κs = search needs
 
 loop-holds : tie.Need-loop-holds Inv-loop μ-loop
-loop-holds c = (search needs, any-none _)
+loop-holds c = sought-none
 
 record-fault-requires : tie.Need-record-fault-requires Inv-loop μ-loop
-record-fault-requires c κs = (c .before .before .before .before .pre, rw (c .before .before .records-of .ensures) at (c .loop-test .taken))
+record-fault-requires c κs = (c .before .before .before .before .pre, rw (c .before .before .record-count .ensures) at (c .loop-test .taken))
 
 returns : tie.Need-returns Inv-loop μ-loop
 unfolding workerFault
-returns c = sym (any-found _ _ (c .before .before .before .loop .k) (rw (c .before .before .before .before .records-of .ensures) at (c .before .before .loop-test .taken)) (sym (c .before .record-fault .ensures) ∙ c .if1 .taken))
+returns c =
+    sought-found (c .before .before .before .loop .inv) (c .before .before .loop-test .taken) (c .before .record-fault .ensures) (c .if1 .taken)
+    (c .before .before .before .before .record-count .ensures)
 
 add-k : tie.Need-add-k Inv-loop μ-loop
 add-k c = omega arith
@@ -37,11 +36,11 @@ loop-less : tie.Need-loop-less Inv-loop μ-loop
 loop-less c = omega arith
 
 loop-again : tie.Need-loop-again Inv-loop μ-loop
-loop-again c = (omega arith, any-more _ _ (c .before .before .before .loop .inv .1) (sym (c .before .record-fault .ensures) ∙ c .if1 .left))
+loop-again c = sought-more (c .before .before .before .loop .inv) (c .before .before .loop-test .taken) (c .before .record-fault .ensures) (c .if1 .left)
 
 returns-2 : tie.Need-returns-2 Inv-loop μ-loop
 unfolding workerFault
-returns-2 c = sym (rw (le-antisymm (c .before .loop .inv .0) (c .loop-test .left), c .before .before .records-of .ensures) at (c .before .loop .inv .1))
+returns-2 c = sought-end (c .before .loop .inv) (c .loop-test .left) (c .before .before .record-count .ensures)
 
 pub worker-fault-spec : {M : Type 1} → statement M
 worker-fault-spec =
@@ -49,7 +48,7 @@ worker-fault-spec =
     (tie.spec
     Inv-loop
     μ-loop
-    records-of-requires
+    record-count-requires
     loop-holds
     record-fault-requires
     returns
