@@ -12,12 +12,13 @@ use lib.Seq.{getD-take}
 use Rattle.ranges.specs.Fold.{anyBelow}
 use Rattle.ranges.proofs.Any.{any-each, any-every, any-same}
 use Rattle.ranges.proofs.Order.{lt-or-le}
-use Rattle.log.specs.Model.{Log, size, eventOf, isReceive}
+use Rattle.log.specs.Model.{Workers, workerCount, eventOf, isReceive}
 use Rattle.accept.specs.WellFormed.{WellFormed}
-use Rattle.causality.specs.Cut.{at, IsCut, Consistent, lacks, workerLacks, isConsistent}
+use Rattle.lent.specs.Lent.{at}
+use Rattle.causality.specs.Cut.{IsCut, Consistent, lacks, workerLacks, isConsistent}
 
 -- a receive within the cut does not lack its send exactly when the send is within the cut
-lacks-false : (log : Log) (cut : List ℕ) (w k : ℕ)
+lacks-false : (log : Workers) (cut : List ℕ) (w k : ℕ)
     → (lacks log cut w k ≡ false) ↔ (isReceive (eventOf log w (k + 1)) ≡ true → eventOf log w (k + 1) .send ≤ at cut (eventOf log w (k + 1) .peer))
 unfolding lacks
 lacks-false log cut w k = (
@@ -36,31 +37,31 @@ lacks-false log cut w k = (
     test false q h = refl
 
 -- words past the last worker are 0
-pub cut-past : (log : Log) (cut : List ℕ) → IsCut log cut → (w : ℕ) → size log ≤ w → at cut w ≡ 0
+pub cut-past : (log : Workers) (cut : List ℕ) → IsCut log cut → (w : ℕ) → workerCount log ≤ w → at cut w ≡ 0
 cut-past log cut is w past = List·getD-eq-default cut 0 (rw (is .long) past)
 
 -- the cut test says whether a cut is consistent
-pub cut-test : (log : Log) (cut : List ℕ) → IsCut log cut → (isConsistent log cut ≡ true) ↔ Consistent log cut
+pub cut-test : (log : Workers) (cut : List ℕ) → IsCut log cut → (isConsistent log cut ≡ true) ↔ Consistent log cut
 unfolding isConsistent workerLacks
 cut-test log cut is = (to, from)
   where
     to : isConsistent log cut ≡ true → Consistent log cut
     to e =
-        let none = not-true (anyBelow (workerLacks log cut) (size log)) e in
+        let none = not-true (anyBelow (workerLacks log cut) (workerCount log)) e in
         record {
           isCut = is;
           closed = λ w k h.
-              ⊎-elim (λ inside. lacks-false log cut w k .0 (any-each (lacks log cut w) (at cut w) (any-each (workerLacks log cut) (size log) none w inside) k h))
+              ⊎-elim (λ inside. lacks-false log cut w k .0 (any-each (lacks log cut w) (at cut w) (any-each (workerLacks log cut) (workerCount log) none w inside) k h))
               (λ past. let z = cut-past log cut is w past in let no : ⊥ = omega arith in absurd no)
-              (lt-or-le w (size log));
+              (lt-or-le w (workerCount log));
         }
 
     from : Consistent log cut → isConsistent log cut ≡ true
     from good =
-        rw (any-every (workerLacks log cut) (size log) (λ w h. any-every (lacks log cut w) (at cut w) (λ k l. lacks-false log cut w k .1 (good .closed w k l))))
+        rw (any-every (workerLacks log cut) (workerCount log) (λ w h. any-every (lacks log cut w) (at cut w) (λ k l. lacks-false log cut w k .1 (good .closed w k l))))
 
 -- two cuts of which the same words are read
-lacks-same : (log : Log) (a b : List ℕ) (w k : ℕ)
+lacks-same : (log : Workers) (a b : List ℕ) (w k : ℕ)
     → (isReceive (eventOf log w (k + 1)) ≡ true → at a (eventOf log w (k + 1) .peer) ≡ at b (eventOf log w (k + 1) .peer)) → lacks log a w k ≡ lacks log b w k
 unfolding lacks
 lacks-same log a b w k same = go (isReceive (eventOf log w (k + 1))) refl
@@ -69,20 +70,20 @@ lacks-same log a b w k same = go (isReceive (eventOf log w (k + 1))) refl
     go true q = rw (q, same q)
     go false q = rw q
 
-worker-same : (log : Log) (a b : List ℕ) (w : ℕ) → at a w ≡ at b w → ((k : ℕ) → lacks log a w k ≡ lacks log b w k) → workerLacks log a w ≡ workerLacks log b w
+worker-same : (log : Workers) (a b : List ℕ) (w : ℕ) → at a w ≡ at b w → ((k : ℕ) → lacks log a w k ≡ lacks log b w k) → workerLacks log a w ≡ workerLacks log b w
 unfolding workerLacks
 worker-same log a b w same each = rw same (any-same (lacks log a w) (lacks log b w) (at b w) (λ k h. each k))
 
 -- the test of the first n words reads no other
-pub first-words : (log : Log) → WellFormed log → (words : List ℕ) → not (anyBelow (workerLacks log words) (size log)) ≡ isConsistent log (take (size log) words)
+pub first-words : (log : Workers) → WellFormed log → (words : List ℕ) → not (anyBelow (workerLacks log words) (workerCount log)) ≡ isConsistent log (take (workerCount log) words)
 unfolding isConsistent
-first-words log ok words = ap not (any-same (workerLacks log words) (workerLacks log (take (size log) words)) (size log) worker)
+first-words log ok words = ap not (any-same (workerLacks log words) (workerLacks log (take (workerCount log) words)) (workerCount log) worker)
   where
-    same : (w : ℕ) → w < size log → at (take (size log) words) w ≡ at words w
-    same w h = getD-take (size log) words w 0 h
+    same : (w : ℕ) → w < workerCount log → at (take (workerCount log) words) w ≡ at words w
+    same w h = getD-take (workerCount log) words w 0 h
 
-    event : (w k : ℕ) → lacks log words w k ≡ lacks log (take (size log) words) w k
-    event w k = lacks-same log words (take (size log) words) w k (λ r. sym (same _ (ok .sent w (k + 1) r .within)))
+    event : (w k : ℕ) → lacks log words w k ≡ lacks log (take (workerCount log) words) w k
+    event w k = lacks-same log words (take (workerCount log) words) w k (λ r. sym (same _ (ok .sent w (k + 1) r .within)))
 
-    worker : (w : ℕ) → w < size log → workerLacks log words w ≡ workerLacks log (take (size log) words) w
-    worker w h = worker-same log words (take (size log) words) w (sym (same w h)) (event w)
+    worker : (w : ℕ) → w < workerCount log → workerLacks log words w ≡ workerLacks log (take (workerCount log) words) w
+    worker w h = worker-same log words (take (workerCount log) words) w (sym (same w h)) (event w)

@@ -6,7 +6,7 @@ pub mod VisitCount
 pub mod CutTest
 pub mod UpperLine
 pub mod WorkersWord
-pub mod Lent
+pub mod Allowed
 pub mod Row
 pub mod Peers
 pub mod Raising

@@ -6,39 +6,40 @@ use mathlib.Core.List.{List}
 use Prim.Native.Nat.{ℕ, zero, suc, _+_, _<_, _≤_}
 use native.Mathlib.Nat.{not-suc-le-zero, eq-or-lt-of-le, le-of-suc-le-suc}
 use native.Mathlib.Omega.{arith}
-use lib.ListN.{set, replicate, length-set, length-replicate, getD-replicate, List·getD-eq-default}
+use lib.ListN.{set, replicate, length-set, length-replicate}
 use Rattle.ranges.specs.Fold.{sweep}
-use Rattle.ranges.proofs.Order.{lt-or-le}
+use Rattle.ranges.proofs.Tabulate.{getD-replicate-all}
 use Rattle.ranges.proofs.Store.{set-cases}
 use Rattle.ranges.proofs.Sweep.{sweep-keeps}
-use Rattle.log.specs.Model.{Log, size, eventOf}
+use Rattle.log.specs.Model.{Workers, workerCount, eventOf}
 use Rattle.log.proofs.Read.{worker-within}
 use Rattle.accept.specs.WellFormed.{WellFormed}
 use Rattle.causality.specs.Happened.{IsEvent, HappenedBefore, earlier, through}
-use Rattle.causality.specs.Cut.{at, component, IsCut, Consistent, IsLowerCut}
+use Rattle.lent.specs.Lent.{at}
+use Rattle.causality.specs.Cut.{component, IsCut, Consistent, IsLowerCut}
 use Rattle.causality.specs.Figure2.{Found, counted, stored, turn, visit, visitAt, beginning, figure2, lowerCut}
 use Rattle.causality.proofs.Order.{Rising, happened-rises, happened-from, index-less, consistent-holds}
 use Rattle.causality.proofs.Components.{component-covers}
 use Rattle.causality.proofs.Recursion.{Ready, Grown, grown-same, grown-through, grown-set, grown-ready, AboveCut, turn-cases, raised-ready}
 
 -- event x of worker w happened before event e of worker i, and its vector is within the cut
-pub record Settled (log : Log) (i e : ℕ) (cut : List ℕ) (w x : ℕ) : Type 0 where
+pub record Settled (log : Workers) (i e : ℕ) (cut : List ℕ) (w x : ℕ) : Type 0 where
   pub happened : HappenedBefore log w x i e
-  pub covered : (v : ℕ) → v < size log → component log w x v ≤ at cut v
+  pub covered : (v : ℕ) → v < workerCount log → component log w x v ≤ at cut v
 
 -- worker w's word of a cut is the breakpoint event or happened before it, and its vector is within the cut
-pub record Held (log : Log) (i e : ℕ) (cut : List ℕ) (w : ℕ) : Type 0 where
+pub record Held (log : Workers) (i e : ℕ) (cut : List ℕ) (w : ℕ) : Type 0 where
   pub event : ((w ≡ i) × (at cut w ≡ e)) ⊎ HappenedBefore log w (at cut w) i e
-  pub covered : (v : ℕ) → v < size log → component log w (at cut w) v ≤ at cut v
+  pub covered : (v : ℕ) → v < workerCount log → component log w (at cut w) v ≤ at cut v
 
 -- a visit to event e of worker i, after the turns of n workers: the cut only grew, the event's own components are within it, and
 -- each worker's word is as before or settled
-pub record Visited (log : Log) (i e n : ℕ) (cut later : List ℕ) : Type 0 where
+pub record Visited (log : Workers) (i e n : ℕ) (cut later : List ℕ) : Type 0 where
   pub grown : Grown cut later
   pub own : (v : ℕ) → v < n → component log i e v ≤ at later v
   pub words : (w : ℕ) → (at later w ≡ at cut w) ⊎ Settled log i e later w (at later w)
 
-module _ (log : Log) (ok : WellFormed log) where
+module _ (log : Workers) (ok : WellFormed log) where
   -- one turn that does nothing
   visited-idle : (i e k : ℕ) (cut t : List ℕ) → component log i e k ≤ at t k → Visited log i e k cut t → Visited log i e (suc k) cut t
   visited-idle i e k cut t within before =
@@ -49,8 +50,8 @@ module _ (log : Log) (ok : WellFormed log) where
       }
 
   -- one turn that stores: `u` is the state after the visit to the stored component
-  visited-more : (i e k : ℕ) (cut t u : List ℕ) → k < size log → Ready log i e t → AboveCut log i e k t
-      → Visited log i e k cut t → Visited log k (component log i e k) (size log) (set t k (component log i e k)) u → Visited log i e (suc k) cut u
+  visited-more : (i e k : ℕ) (cut t u : List ℕ) → k < workerCount log → Ready log i e t → AboveCut log i e k t
+      → Visited log i e k cut t → Visited log k (component log i e k) (workerCount log) (set t k (component log i e k)) u → Visited log i e (suc k) cut u
   visited-more i e k cut t u h ready raised before now =
       record {
         grown = grown-through (before .grown) further;
@@ -75,8 +76,8 @@ module _ (log : Log) (ok : WellFormed log) where
           (set-cases t k (component log i e k) 0 w (rw (ready .long) h))
 
   -- the first n turns of a visit whose own visits are as they should be
-  pub turns-visited : (go : ℕ → ℕ → Found → Found) (i e n : ℕ) (s : Found) → n ≤ size log → IsEvent log i e → Ready log i e (s .cut)
-      → ((v d : ℕ) (t : Found) → Rising log v d i e → Ready log v d (t .cut) → Visited log v d (size log) (t .cut) (go v d t .cut))
+  pub turns-visited : (go : ℕ → ℕ → Found → Found) (i e n : ℕ) (s : Found) → n ≤ workerCount log → IsEvent log i e → Ready log i e (s .cut)
+      → ((v d : ℕ) (t : Found) → Rising log v d i e → Ready log v d (t .cut) → Visited log v d (workerCount log) (t .cut) (go v d t .cut))
       → Visited log i e n (s .cut) (sweep (turn go log i e) n s .cut)
   turns-visited go i e n s few event ready each =
       sweep-keeps (turn go log i e) (λ k t. Visited log i e k (s .cut) (t .cut)) n s
@@ -94,15 +95,15 @@ module _ (log : Log) (ok : WellFormed log) where
 
   -- a visit with enough depth
   pub visited : (depth i e : ℕ) (s : Found) → IsEvent log i e → Ready log i e (s .cut) → eventOf log i e .stamp < depth
-      → Visited log i e (size log) (s .cut) (visit depth log i e s .cut)
+      → Visited log i e (workerCount log) (s .cut) (visit depth log i e s .cut)
   unfolding visit
   visited zero i e s event ready enough = absurd (not-suc-le-zero enough)
   visited (suc depth) i e s event ready enough =
-      turns-visited (λ v d t. visit depth log v d t) i e (size log) (counted s) (omega arith) event ready
+      turns-visited (λ v d t. visit depth log v d t) i e (workerCount log) (counted s) (omega arith) event ready
       (λ v d t rising r. visited depth v d t (rising .first) r (omega (arith, rising .stamps)))
 
   -- the figure's visit
-  pub visitAt-visited : (i e : ℕ) (s : Found) → IsEvent log i e → Ready log i e (s .cut) → Visited log i e (size log) (s .cut) (visitAt log i e s .cut)
+  pub visitAt-visited : (i e : ℕ) (s : Found) → IsEvent log i e → Ready log i e (s .cut) → Visited log i e (workerCount log) (s .cut) (visitAt log i e s .cut)
   unfolding visitAt
   visitAt-visited i e s event ready = visited (suc (eventOf log i e .stamp)) i e s event ready (omega arith)
 
@@ -115,16 +116,14 @@ module _ (log : Log) (ok : WellFormed log) where
       }
 
 -- the words that the search begins with
-pub beginning-words : (log : Log) (i e : ℕ) → i < size log → (w : ℕ)
+pub beginning-words : (log : Workers) (i e : ℕ) → i < workerCount log → (w : ℕ)
     → ((w ≡ i) × (at (beginning log i e .cut) w ≡ e)) ⊎ ((w ≢ i) × (at (beginning log i e .cut) w ≡ 0))
 unfolding beginning
 beginning-words log i e h w =
-    let zeros : at (replicate (size log) 0) w ≡ 0 =
-    ⊎-elim (getD-replicate (size log) w 0 0) (λ past. List·getD-eq-default (replicate (size log) 0) 0 (rw (length-replicate {A = ℕ} (size log) 0) past)) (lt-or-le w (size log)) in
-    ⊎-elim inl (λ c. inr (c .0, c .1 ∙ zeros)) (set-cases (replicate (size log) 0) i e 0 w (rw (length-replicate {A = ℕ} (size log) 0) h))
+    ⊎-elim inl (λ c. inr (c .0, c .1 ∙ getD-replicate-all (workerCount log) w 0)) (set-cases (replicate (workerCount log) 0) i e 0 w (rw (length-replicate {A = ℕ} (workerCount log) 0) h))
 
 -- .. hold the breakpoint event
-pub beginning-ready : (log : Log) (i e : ℕ) → i < size log → Ready log i e (beginning log i e .cut)
+pub beginning-ready : (log : Workers) (i e : ℕ) → i < workerCount log → Ready log i e (beginning log i e .cut)
 unfolding beginning
 beginning-ready log i e h =
     record {
@@ -133,7 +132,7 @@ beginning-ready log i e h =
     }
 
 -- .. and are a cut
-pub beginning-cut : (log : Log) (i e : ℕ) → IsEvent log i e → IsCut log (beginning log i e .cut)
+pub beginning-cut : (log : Workers) (i e : ℕ) → IsEvent log i e → IsCut log (beginning log i e .cut)
 beginning-cut log i e event =
     let within = worker-within log i 0 (omega arith) in
     record {
@@ -141,11 +140,11 @@ beginning-cut log i e event =
       within = λ w. ⊎-elim (λ c. rw (c .1, c .0) (event .1)) (λ c. omega (arith, c .1)) (beginning-words log i e within w);
     }
 
-module _ (log : Log) (ok : WellFormed log) (i e : ℕ) (event : IsEvent log i e) where
-  within : i < size log
+module _ (log : Workers) (ok : WellFormed log) (i e : ℕ) (event : IsEvent log i e) where
+  within : i < workerCount log
   within = worker-within log i 0 (omega arith)
 
-  figure2-visited : Visited log i e (size log) (beginning log i e .cut) (lowerCut log i e)
+  figure2-visited : Visited log i e (workerCount log) (beginning log i e .cut) (lowerCut log i e)
   unfolding figure2
   figure2-visited = visitAt-visited log ok i e (beginning log i e) event (beginning-ready log i e within)
 
@@ -172,7 +171,7 @@ module _ (log : Log) (ok : WellFormed log) (i e : ℕ) (event : IsEvent log i e)
       own p q = record { event = inl (p, q); covered = λ v h. rw (q, p) (figure2-visited .own v h) }
 
   lower-cut : IsCut log (lowerCut log i e)
-  lower-cut = visited-cut log ok i e (size log) (beginning log i e .cut) (lowerCut log i e) (beginning-cut log i e event) figure2-visited
+  lower-cut = visited-cut log ok i e (workerCount log) (beginning log i e .cut) (lowerCut log i e) (beginning-cut log i e event) figure2-visited
 
   lower-consistent : Consistent log (lowerCut log i e)
   lower-consistent =

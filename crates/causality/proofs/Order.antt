@@ -5,27 +5,27 @@ use mathlib.Core.Logic.{⊎-elim, _⊎_, inl, inr}
 use mathlib.Core.Bool.{true, false≢true}
 use mathlib.Core.List.{List}
 use Prim.Native.Nat.{ℕ, zero, suc, _+_, _-_, _<_, _≤_}
-use native.Mathlib.Nat.{not-suc-le-zero, eq-or-lt-of-le, le-of-suc-le-suc}
-use native.Mathlib.Numerals.{add-one}
+use native.Mathlib.Nat.{eq-or-lt-of-le}
 use native.Mathlib.Omega.{arith}
 use Rattle.ranges.proofs.Order.{lt-or-le}
-use Rattle.log.specs.Model.{Log, count, eventOf, isReceive, isUnlogged, isLogged}
+use Rattle.log.specs.Model.{Workers, eventCount, eventOf, isReceive, isUnlogged, isLogged}
 use Rattle.log.proofs.Read.{event-none, event-past}
-use Rattle.accept.specs.Records.{named}
+use Rattle.accept.specs.Records.{sendOf}
 use Rattle.accept.proofs.Stamps.{stamps-rise}
 use Rattle.accept.specs.WellFormed.{WellFormed}
 use Rattle.causality.specs.Happened.{IsEvent, HappenedBefore, earlier, message, through}
-use Rattle.causality.specs.Cut.{at, Consistent}
+use Rattle.lent.specs.Lent.{at}
+use Rattle.causality.specs.Cut.{Consistent}
 
 -- a receive is an event of the log
-pub receive-event : (log : Log) (w x : ℕ) → isReceive (eventOf log w x) ≡ true → IsEvent log w x
+pub receive-event : (log : Workers) (w x : ℕ) → isReceive (eventOf log w x) ≡ true → IsEvent log w x
 unfolding isReceive isUnlogged isLogged
 receive-event log w zero r = absurd (false≢true (rw (event-none log w) at r))
 receive-event log w (suc x) r =
-    (omega arith, ⊎-elim (λ l. absurd (false≢true (rw (event-past log w (suc x) l) at r))) (λ l. l) (lt-or-le (count log w) (suc x)))
+    (omega arith, ⊎-elim (λ l. absurd (false≢true (rw (event-past log w (suc x) l) at r))) (λ l. l) (lt-or-le (eventCount log w) (suc x)))
 
 -- the send of a receive within a consistent cut is within it
-pub consistent-send : (log : Log) (cut : List ℕ) → Consistent log cut → (w x : ℕ) → x ≤ at cut w → isReceive (eventOf log w x) ≡ true
+pub consistent-send : (log : Workers) (cut : List ℕ) → Consistent log cut → (w x : ℕ) → x ≤ at cut w → isReceive (eventOf log w x) ≡ true
     → eventOf log w x .send ≤ at cut (eventOf log w x .peer)
 consistent-send log cut good w x h r =
     let event = receive-event log w x r in
@@ -33,19 +33,19 @@ consistent-send log cut good w x h r =
     (rw e at (good .closed w (x - 1) (omega arith))) r
 
 -- two events of the log, the first with a smaller stamp
-pub record Rising (log : Log) (w x v y : ℕ) : Type 0 where
+pub record Rising (log : Workers) (w x v y : ℕ) : Type 0 where
   pub first : IsEvent log w x
   pub second : IsEvent log v y
   pub stamps : eventOf log w x .stamp < eventOf log v y .stamp
 
 -- event z of worker w, up to its event y, is a receive whose send is event x of worker u or has that event before it
-pub record Through (log : Log) (u x w y z : ℕ) : Type 0 where
+pub record Through (log : Workers) (u x w y z : ℕ) : Type 0 where
   pub bound : z ≤ y
   pub receive : isReceive (eventOf log w z) ≡ true
   pub send : ((eventOf log w z .peer ≡ u) × (eventOf log w z .send ≡ x)) ⊎ HappenedBefore log u x (eventOf log w z .peer) (eventOf log w z .send)
 
 -- what happened before an event is earlier on its worker, or comes through a receive of its worker
-pub happened-last : {log : Log} {u x w y : ℕ} → HappenedBefore log u x w y → ((u ≡ w) × (x < y)) ⊎ ((z : ℕ) × Through log u x w y z)
+pub happened-last : {log : Workers} {u x w y : ℕ} → HappenedBefore log u x w y → ((u ≡ w) × (x < y)) ⊎ ((z : ℕ) × Through log u x w y z)
 happened-last (earlier positive less bound) = inl (refl, less)
 happened-last (message {x} r p q) = inr (x, record { bound = omega arith; receive = r; send = inl (p, q) })
 happened-last {log} {u} {x} {w} {y} (through {v} {y = m} a b) = ⊎-elim (same (happened-last a)) (λ t. inr (t .0, beyond (t .0) (t .1))) (happened-last b)
@@ -64,9 +64,9 @@ happened-last {log} {u} {x} {w} {y} (through {v} {y = m} a b) = ⊎-elim (same (
           send = ⊎-elim (λ c. inr (rw (c .0, c .1) a)) (λ c. inr (through a c)) (t .send);
         }
 
-module _ (log : Log) (ok : WellFormed log) where
+module _ (log : Workers) (ok : WellFormed log) where
   -- within a worker, the smaller stamp has the smaller index
-  pub index-less : (w x y : ℕ) → x ≤ count log w → eventOf log w x .stamp < eventOf log w y .stamp → x < y
+  pub index-less : (w x y : ℕ) → x ≤ eventCount log w → eventOf log w x .stamp < eventOf log w y .stamp → x < y
   index-less w x y l h =
       ⊎-elim (λ less. less)
       (λ g. ⊎-elim (λ q. let e : eventOf log w y .stamp ≡ eventOf log w x .stamp = ap (λ (z : ℕ). eventOf log w z .stamp) q in let no : ⊥ = omega arith in absurd no)
@@ -76,7 +76,7 @@ module _ (log : Log) (ok : WellFormed log) where
 
   -- a receive and the send that it names
   pub send-rises : (w x : ℕ) → isReceive (eventOf log w x) ≡ true → Rising log (eventOf log w x .peer) (eventOf log w x .send) w x
-  unfolding named
+  unfolding sendOf
   send-rises w x r =
       let sent = ok .sent w x r in
       record { first = (sent .positive, sent .counted); second = receive-event log w x r; stamps = sent .earlier }
@@ -101,7 +101,7 @@ module _ (log : Log) (ok : WellFormed log) where
       ⊎-elim (λ q. rw q b) (λ less. through (earlier positive less (happened-rises b .first .1)) b) (eq-or-lt-of-le h)
 
   -- what happened before an event happened before each later event of its worker
-  pub happened-to : {w x v : ℕ} (y z : ℕ) → y ≤ z → z ≤ count log v → HappenedBefore log w x v y → HappenedBefore log w x v z
+  pub happened-to : {w x v : ℕ} (y z : ℕ) → y ≤ z → z ≤ eventCount log v → HappenedBefore log w x v y → HappenedBefore log w x v z
   happened-to y z h bound b =
       ⊎-elim (λ q. rw q at b) (λ less. through b (earlier (happened-rises b .second .0) less bound)) (eq-or-lt-of-le h)
 

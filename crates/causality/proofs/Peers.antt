@@ -12,18 +12,19 @@ use lib.Dec.{eqb, ltb}
 use lib.ListN.{set}
 use lib.Seq.{set-getD}
 use Rattle.log.specs.declared.Event.{Event}
-use Rattle.log.specs.Layout.{logOf}
-use Rattle.log.specs.Model.{size, count, eventOf, isReceive}
-use Rattle.accept.specs.Refusal.{refusal}
+use Rattle.log.specs.Layout.{workersOf}
+use Rattle.log.specs.Model.{workerCount, eventCount, eventOf, isReceive}
+use Rattle.accept.specs.Refusal.{logRefusal}
 use Rattle.accept.proofs.Accepted.{well-formed}
-use Rattle.causality.specs.Cut.{at, lacks}
-use Rattle.causality.specs.Row.{noted}
-use Rattle.causality.specs.Raising.{blocked}
+use Rattle.lent.specs.Lent.{at}
+use Rattle.causality.specs.Cut.{lacks}
+use Rattle.causality.specs.Inner.Row.{noted}
+use Rattle.causality.specs.Inner.Raising.{blocked}
 
 -- event k + 1 of worker w
-module _ (s : List ℕ) (accepted : refusal s ≡ 0) (w k : ℕ) (e : Event) (q : e ≡ eventOf (logOf s) w (k + 1)) (h : k < count (logOf s) w) where
+module _ (s : List ℕ) (accepted : logRefusal s ≡ 0) (w k : ℕ) (e : Event) (q : e ≡ eventOf (workersOf s) w (k + 1)) (h : k < eventCount (workersOf s) w) where
   -- its peer is a worker of the log
-  pub peer-within : e .peer < size (logOf s)
+  pub peer-within : e .peer < workerCount (workersOf s)
   peer-within = rw q (well-formed s accepted .peers w (k + 1) (omega arith) (omega arith))
 
   -- what is no receive names no event
@@ -43,7 +44,7 @@ module _ (s : List ℕ) (accepted : refusal s ≡ 0) (w k : ℕ) (e : Event) (q 
       go false r = rw (r, names-none r, max-zero (at words (e .peer))) (set-getD words (e .peer) 0)
 
   -- .. or compared with a cut ..
-  pub lacks-any : (cut : List ℕ) → ltb (at cut (e .peer)) (e .send) ≡ lacks (logOf s) cut w k
+  pub lacks-any : (cut : List ℕ) → ltb (at cut (e .peer)) (e .send) ≡ lacks (workersOf s) cut w k
   unfolding lacks
   lacks-any cut = rw (← q) (go (isReceive e) refl)
     where
@@ -53,7 +54,7 @@ module _ (s : List ℕ) (accepted : refusal s ≡ 0) (w k : ℕ) (e : Event) (q 
 
   -- .. or with a line and the breakpoint event
   pub blocked-any : (i event : ℕ) (line : List ℕ) → 0 < event
-      → (ltb (at line (e .peer)) (e .send) || (eqb (e .peer) i && eqb (e .send) event)) ≡ blocked (logOf s) i event line w k
+      → (ltb (at line (e .peer)) (e .send) || (eqb (e .peer) i && eqb (e .send) event)) ≡ blocked (workersOf s) i event line w k
   unfolding blocked
   blocked-any i event line positive = rw (← q) (go (isReceive e) refl)
     where

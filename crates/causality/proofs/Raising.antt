@@ -2,31 +2,34 @@
 -- at the last events, it is the upper line. Assumes nothing.
 use mathlib.Core.Path.{_≡_, refl, sym, _∙_, ap}
 use mathlib.Core.Logic.{_⊎_, inl, inr, ⊎-elim, _≢_}
-use mathlib.Core.Bool.{Bool, true, false, _&&_, _||_, false≢true}
+use mathlib.Core.Bool.{Bool, true, false, not, _&&_, _||_, false≢true}
 use mathlib.Core.List.{List}
-use Prim.Native.Nat.{ℕ, _+_, _-_, _<_, _≤_}
-use native.Mathlib.Nat.{le-antisymm}
+use Prim.Native.Nat.{ℕ, _+_, _*_, _-_, _<_, _≤_}
+use native.Mathlib.Nat.{le-antisymm, le-trans, lt-of-lt-of-le}
 use native.Mathlib.Omega.{arith}
 use borrow.Author.Tests.{ltb-true, ltb-false, le-ltb, eqb-true, eq-eqb}
 use lib.Dec.{eqb, ltb}
 use lib.ListN.{length, set, replicate, length-set, length-replicate}
 use lib.Seq.{getD-set-same, ext-getD}
-use Rattle.ranges.proofs.Bools.{and-true-left, and-true-right, and-false-right, or-false-left, or-false-right}
+use Rattle.ranges.proofs.Bools.{and-true-left, and-true-right, and-false-right, or-false-left, or-false-right, said-false, said-true}
 use Rattle.ranges.proofs.Order.{lt-or-le, eq-or-ne}
 use Rattle.ranges.proofs.Store.{set-cases, set-grows}
 use Rattle.ranges.proofs.Sum.{sum-lt}
 use Rattle.ranges.proofs.Tabulate.{getD-replicate-all}
 use Rattle.log.specs.declared.Event.{Event}
-use Rattle.log.specs.Model.{Log, size, count, eventOf, isReceive}
+use Rattle.log.specs.Limits.{maxWorkers, maxEvents}
+use Rattle.log.specs.Model.{Workers, workerCount, eventCount, eventOf, isReceive}
 use Rattle.log.proofs.Read.{worker-within}
 use Rattle.accept.specs.WellFormed.{WellFormed}
 use Rattle.accept.proofs.Stamps.{stamps-grow}
 use Rattle.causality.specs.Happened.{IsEvent, HappenedBefore, earlier, message, through}
-use Rattle.causality.specs.Cut.{at, Consistent, Within}
-use Rattle.causality.specs.Visiting.{wordSum}
-use Rattle.causality.specs.Raising.{blocked, Passed, Stuck, Raised}
+use Rattle.lent.specs.Lent.{at}
+use Rattle.causality.specs.Cut.{IsCut, Consistent, Within}
+use Rattle.causality.specs.Inner.Visiting.{wordSum}
+use Rattle.causality.specs.Inner.Raising.{blocked, Passed, Stuck, Raised}
 use Rattle.causality.specs.Upper.{upperLine}
 use Rattle.causality.proofs.Order.{Rising, receive-event, index-less, send-rises, happened-rises, happened-to}
+use Rattle.causality.proofs.VisitCount.{words-few}
 use Rattle.causality.proofs.UpperLine.{upper-happened, upper-consistent}
 
 -- what the test on a receive says where it holds, and where it does not
@@ -50,10 +53,10 @@ looser bound larger send peer i e h t =
     rw (le-ltb larger send (omega arith)) (or-false-right (ltb bound send) (eqb peer i && eqb send e) t)
 
 -- worker w is at its last event, or stuck
-abbrev pub Stopped : Log → ℕ → ℕ → List ℕ → ℕ → Type 0
-Stopped log i e line w = (count log w ≤ at line w) ⊎ Stuck log i e line w
+abbrev pub Stopped : Workers → ℕ → ℕ → List ℕ → ℕ → Type 0
+Stopped log i e line w = (eventCount log w ≤ at line w) ⊎ Stuck log i e line w
 
-module _ (log : Log) (i e : ℕ) where
+module _ (log : Workers) (i e : ℕ) where
   -- why an event is blocked
   blocked-by : (line : List ℕ) (w k : ℕ) → blocked log i e line w k ≡ true
       → (isReceive (eventOf log w (k + 1)) ≡ true)
@@ -83,7 +86,7 @@ module _ (log : Log) (i e : ℕ) where
       go false q = rw q
 
   -- one event more of a worker whose next event is not blocked
-  pub passed-more : (line : List ℕ) (w : ℕ) → Passed log i e line → w ≢ i → at line w < count log w → blocked log i e line w (at line w) ≡ false
+  pub passed-more : (line : List ℕ) (w : ℕ) → Passed log i e line → w ≢ i → at line w < eventCount log w → blocked log i e line w (at line w) ≡ false
       → Passed log i e (set line w (at line w + 1)) × Within line (set line w (at line w + 1)) × (wordSum log line < wordSum log (set line w (at line w + 1)))
   unfolding wordSum
   passed-more line w p other less t = (
@@ -93,7 +96,7 @@ module _ (log : Log) (i e : ℕ) where
       free = λ v j away h. blocked-falls line new grown v j (⊎-elim (at-free v j away h) (λ c. p .free v j away (omega (arith, c .1))) (cases v));
     },
     grown,
-    sum-lt (at line) (at new) (size log) (λ v l. grown v) w (worker-within log w (at line w) less) (omega (arith, same)),
+    sum-lt (at line) (at new) (workerCount log) (λ v l. grown v) w (worker-within log w (at line w) less) (omega (arith, same)),
   )
     where
       new : List ℕ
@@ -111,7 +114,7 @@ module _ (log : Log) (i e : ℕ) where
       cases : (v : ℕ) → ((v ≡ w) × (at (set line w (at line w + 1)) v ≡ at line w + 1)) ⊎ ((v ≢ w) × (at (set line w (at line w + 1)) v ≡ at line v))
       cases v = set-cases line w (at line w + 1) 0 v inside
 
-      at-count : (v : ℕ) → (v ≡ w) × (at (set line w (at line w + 1)) v ≡ at line w + 1) → at (set line w (at line w + 1)) v ≤ count log v
+      at-count : (v : ℕ) → (v ≡ w) × (at (set line w (at line w + 1)) v ≡ at line w + 1) → at (set line w (at line w + 1)) v ≤ eventCount log v
       at-count v c = rw (c .0, same) (omega arith)
 
       at-free : (v j : ℕ) → v ≢ i → j < at (set line w (at line w + 1)) v → (v ≡ w) × (at (set line w (at line w + 1)) v ≡ at line w + 1) → blocked log i e line v j ≡ false
@@ -120,25 +123,28 @@ module _ (log : Log) (i e : ℕ) where
           (λ l. let last : j ≡ at line w = omega (arith, c .1) in rw (c .0, last) t) (lt-or-le j (at line w))
 
   -- the words before any is raised: the breakpoint event for its worker, and 0 elsewhere
-  pub passed-first : i < size log → IsEvent log i e → Passed log i e (set (replicate (size log) 0) i e)
+  pub passed-first : i < workerCount log → IsEvent log i e → Passed log i e (set (replicate (workerCount log) 0) i e)
   passed-first h event =
       record {
-        isCut = record { long = simp length-set (length-replicate (size log) 0); within = λ w. ⊎-elim (λ c. rw (c .0, getD-set-same zeros i e 0 inside) (event .1)) (λ c. omega (arith, c .1, none w)) (cases w) };
+        isCut = record {
+          long = simp length-set (length-replicate (workerCount log) 0);
+          within = λ w. ⊎-elim (λ c. rw (c .0, getD-set-same zeros i e 0 inside) (event .1)) (λ c. omega (arith, c .1, none w)) (cases w);
+        };
         own = getD-set-same zeros i e 0 inside;
         free = λ w k other less. ⊎-elim (λ c. absurd (other (c .0))) (λ c. let no : ⊥ = omega (arith, c .1, none w) in absurd no) (cases w);
       }
     where
       zeros : List ℕ
-      zeros = replicate (size log) 0
+      zeros = replicate (workerCount log) 0
 
-      inside : i < length (replicate {A = ℕ} (size log) 0)
-      inside = rw (length-replicate {A = ℕ} (size log) 0) h
+      inside : i < length (replicate {A = ℕ} (workerCount log) 0)
+      inside = rw (length-replicate {A = ℕ} (workerCount log) 0) h
 
-      none : (w : ℕ) → at (replicate (size log) 0) w ≡ 0
-      none w = getD-replicate-all (size log) w 0
+      none : (w : ℕ) → at (replicate (workerCount log) 0) w ≡ 0
+      none w = getD-replicate-all (workerCount log) w 0
 
-      cases : (w : ℕ) → ((w ≡ i) × (at (set (replicate (size log) 0) i e) w ≡ e)) ⊎ ((w ≢ i) × (at (set (replicate (size log) 0) i e) w ≡ at (replicate (size log) 0) w))
-      cases w = set-cases (replicate (size log) 0) i e 0 w inside
+      cases : (w : ℕ) → ((w ≡ i) × (at (set (replicate (workerCount log) 0) i e) w ≡ e)) ⊎ ((w ≢ i) × (at (set (replicate (workerCount log) 0) i e) w ≡ at (replicate (workerCount log) 0) w))
+      cases w = set-cases (replicate (workerCount log) 0) i e 0 w inside
 
   module _ (ok : WellFormed log) (event : IsEvent log i e) where
     module _ (line : List ℕ) (p : Passed log i e line) where
@@ -179,89 +185,168 @@ module _ (log : Log) (i e : ℕ) where
       stuck-stays k w h b = let same : at line w ≡ k = omega (arith, passed-before b) in rw same b
 
       -- the breakpoint's own worker is stuck, or at its last event
-      pub raised-own : Raised log i e i (count log i) line line
+      pub raised-own : Raised log i e i (eventCount log i) line line
       raised-own =
           record {
             passed = p;
             grown = λ w. omega arith;
-            reached = ⊎-elim (λ (less : e < count log i). inr (rw (p .own) (earlier {w = i} {y = e + 1} (event .0) (omega arith) (omega arith))))
-                (λ l. inl (omega (arith, p .own))) (lt-or-le e (count log i));
+            reached = ⊎-elim (λ (less : e < eventCount log i). inr (rw (p .own) (earlier {w = i} {y = e + 1} (event .0) (omega arith) (omega arith))))
+                (λ l. inl (omega (arith, p .own))) (lt-or-le e (eventCount log i));
           }
 
-    -- where worker w's next event, `next`, is blocked
-    module _ (line : List ℕ) (p : Passed log i e line) (w : ℕ) (next : Event) (q : next ≡ eventOf log w (at line w + 1))
-        (stop : blocked log i e line w (at line w) ≡ true) where
+-- what the loop over the workers keeps: the first w of the n workers can be moved on no more
+pub record Lined (log : Workers) (i e n : ℕ) (line : List ℕ) (w : ℕ) : Type 0 where
+  pub ok : WellFormed log
+  pub event : IsEvent log i e
+  pub size : n ≡ workerCount log
+  pub few : w ≤ n
+  pub passed : Passed log i e line
+  pub stopped : (v : ℕ) → v < w → Stopped log i e line v
+
+pub lined-first : {log : Workers} {i e n : ℕ} {line : List ℕ} → WellFormed log → IsEvent log i e → n ≡ workerCount log → Passed log i e line → Lined log i e n line 0
+lined-first ok event size p =
+    record { ok = ok; event = event; size = size; few = omega arith; passed = p; stopped = λ v less. let no : ⊥ = omega arith in absurd no }
+
+module _ {log : Workers} {i e n : ℕ} {line : List ℕ} {w : ℕ} (l : Lined log i e n line w) where
+  -- one worker more, when it has been moved on as far as it can go
+  pub lined-more : w < n → {new : List ℕ} → Raised log i e w (eventCount log w) line new → Lined log i e n new (w + 1)
+  lined-more h {new} up =
+      record { ok = l .ok; event = l .event; size = l .size; few = omega arith; passed = up .passed; stopped = stopped }
+    where
+      stopped : (v : ℕ) → v < w + 1 → Stopped log i e new v
+      stopped v inside =
+          ⊎-elim
+          (λ less.
+          ⊎-elim (λ end. inl (omega (arith, up .grown v)))
+          (λ stuck. inr (stuck-stays log i e (l .ok) (l .event) new (up .passed) (at line v) v (up .grown v) stuck)) (l .stopped v less))
+          (λ last. let here : v ≡ w = omega arith in rw here (up .reached))
+          (lt-or-le v w)
+
+  -- where none can, the line is the upper line
+  pub lined-upper : n ≤ w → line ≡ upperLine log i e
+  lined-upper all =
+      ext-getD 0 line (upperLine log i e) (l .passed .isCut .long ∙ sym (upper .isCut .long))
+      (λ v h. le-antisymm (inside v) (whole v (rw (l .passed .isCut .long) at h)))
+    where
+      upper : Consistent log (upperLine log i e)
+      upper = upper-consistent log (l .ok) i e (l .event)
+
+      inside : (v : ℕ) → at line v ≤ at (upperLine log i e) v
+      inside v =
+          ⊎-elim
+          (λ positive.
+          upper-happened log (l .ok) i e (l .event) v (at line v) (positive, l .passed .isCut .within v) .1
+          (λ b. let less = passed-before log i e (l .ok) (l .event) line (l .passed) b in omega arith))
+          (λ none. omega arith)
+          (lt-or-le 0 (at line v))
+
+      whole : (v : ℕ) → v < workerCount log → at (upperLine log i e) v ≤ at line v
+      whole v h =
+          ⊎-elim (λ end. omega (arith, upper .isCut .within v))
+          (λ stuck.
+          ⊎-elim (λ less. absurd (upper-happened log (l .ok) i e (l .event) v (at line v + 1) (happened-rises log (l .ok) stuck .second) .0 (omega arith) stuck))
+          (λ most. most)
+          (lt-or-le (at line v) (at (upperLine log i e) v)))
+          (l .stopped v (omega (arith, l .size)))
+
+-- what the loop that moves worker w on keeps: `first` is the line that it began with
+pub record Moving (log : Workers) (i e w target : ℕ) (first line : List ℕ) : Type 0 where
+  pub ok : WellFormed log
+  pub event : IsEvent log i e
+  pub within : w < workerCount log
+  pub other : w ≢ i
+  pub bound : target ≤ eventCount log w
+  pub began : Passed log i e first
+  pub passed : Passed log i e line
+  pub grown : Within first line
+
+-- how far a line can still be raised
+abbrev pub left : Workers → List ℕ → ℕ
+left log line = maxWorkers * maxEvents - wordSum log line
+
+module _ {log : Workers} {i e w target : ℕ} {first line : List ℕ} (m : Moving log i e w target first line) where
+  pub moving-room : w < length line
+  moving-room = rw (m .passed .isCut .long) (m .within)
+
+  pub moving-long : length line ≡ length first
+  moving-long = m .passed .isCut .long ∙ sym (m .began .isCut .long)
+
+  pub moved : {new : List ℕ} → Passed log i e new → Within line new → Moving log i e w target first new
+  moved p up =
+      record {
+        ok = m .ok;
+        event = m .event;
+        within = m .within;
+        other = m .other;
+        bound = m .bound;
+        began = m .began;
+        passed = p;
+        grown = λ v. le-trans (m .grown v) (up v);
+      }
+
+  less-left : {new : List ℕ} → IsCut log new → wordSum log line < wordSum log new → left log new < left log line
+  less-left is rises = omega (arith, words-few log (m .ok) _ is)
+
+  -- the loop ends: worker w is at the target, or can be moved on no more
+  pub moving-ends : (target ≤ at line w) ⊎ Stuck log i e line w → Raised log i e w target first line
+  moving-ends end = record { passed = m .passed; grown = m .grown; reached = end }
+
+  module _ (less : at line w < target) where
+    -- worker w's next event is not blocked
+    module _ {b : Bool} (said : b ≡ blocked log i e line w (at line w)) (test : not b ≡ true) where
+      stepped : Passed log i e (set line w (at line w + 1)) × Within line (set line w (at line w + 1)) × (wordSum log line < wordSum log (set line w (at line w + 1)))
+      stepped = passed-more log i e line w (m .passed) (m .other) (lt-of-lt-of-le less (m .bound)) (said-false said test)
+
+      pub stepped-on : Moving log i e w target first (set line w (at line w + 1))
+      stepped-on = moved (stepped .0) (stepped .1)
+
+      pub stepped-less : left log (set line w (at line w + 1)) < left log line
+      stepped-less = less-left (stepped .0 .isCut) (stepped .2)
+
+    -- it is blocked
+    module _ {b : Bool} (said : b ≡ blocked log i e line w (at line w)) (test : not b ≡ false) {next : Event} (found : next ≡ eventOf log w (at line w + 1)) where
+      awaited-for : (isReceive next ≡ true) × (((next .peer ≡ i) × (next .send ≡ e)) ⊎ (at line (next .peer) < next .send))
+      awaited-for = rw found (blocked-by log i e line w (at line w) (said-true said test))
+
       awaited : Rising log (next .peer) (next .send) w (at line w + 1)
-      awaited = rw q (send-rises log ok w (at line w + 1) (blocked-by line w (at line w) stop .0))
+      awaited = rw found (send-rises log (m .ok) w (at line w + 1) (rw found at (awaited-for .0)))
 
       awaited-message : HappenedBefore log (next .peer) (next .send) w (at line w + 1)
-      awaited-message = rw q (message (blocked-by line w (at line w) stop .0) refl refl)
+      awaited-message = rw found (message (rw found at (awaited-for .0)) refl refl)
 
-      awaited-by : ((next .peer ≡ i) × (next .send ≡ e)) ⊎ (at line (next .peer) < next .send)
-      awaited-by = rw q (blocked-by line w (at line w) stop .1)
-
-      -- the awaited send is an event of the log ..
-      pub awaited-event : (next .peer < size log) × (next .send ≤ count log (next .peer))
-      awaited-event = (worker-within log (next .peer) 0 (omega (arith, awaited .first .0, awaited .first .1)), awaited .first .1)
-
-      -- .. with a smaller stamp than any later event of the worker
-      pub awaited-falls : (target : ℕ) → at line w < target → target ≤ count log w → eventOf log (next .peer) (next .send) .stamp < eventOf log w target .stamp
-      awaited-falls target less bound = omega (arith, awaited .stamps, stamps-grow log ok w (at line w + 1) target (omega arith) bound)
+      -- the awaited send is an event of the log, with a smaller stamp than the target
+      pub awaited-send : (eventOf log (next .peer) (next .send) .stamp < eventOf log w target .stamp)
+          × (next .peer < workerCount log) × (next .send ≤ eventCount log (next .peer))
+      awaited-send = (
+        omega (arith, awaited .stamps, stamps-grow log (m .ok) w (at line w + 1) target (omega arith) (m .bound)),
+        worker-within log (next .peer) 0 (omega (arith, awaited .first .0, awaited .first .1)),
+        awaited .first .1,
+      )
 
       -- the breakpoint's own worker sent the message
       pub awaited-own : next .peer ≡ i → Stuck log i e line w
       awaited-own same =
           ⊎-elim (λ own. rw (own .0, own .1) at awaited-message)
           (λ beyond.
-          let here : at line (next .peer) ≡ e = ap (at line) same ∙ p .own in
-          through (earlier (event .0) (omega arith) (rw same at (awaited .first .1))) (rw same at awaited-message))
-          awaited-by
+          let here : at line (next .peer) ≡ e = ap (at line) same ∙ m .passed .own in
+          through (earlier (m .event .0) (omega arith) (rw same at (awaited .first .1))) (rw same at awaited-message))
+          (awaited-for .1)
 
       -- another worker sent it, and was moved on ..
-      module _ (new : List ℕ) (up : Raised log i e (next .peer) (next .send) line new) where
+      module _ {new : List ℕ} (up : Raised log i e (next .peer) (next .send) line new) where
         -- .. to the send
-        pub awaited-more : next .peer ≢ i → next .send ≤ at new (next .peer) → wordSum log line < wordSum log new
+        pub awaited-less : next .peer ≢ i → next .send ≤ at new (next .peer) → left log new < left log line
         unfolding wordSum
-        awaited-more other there =
-            sum-lt (at line) (at new) (size log) (λ v l. up .grown v) (next .peer) (awaited-event .0)
-            (⊎-elim (λ own. absurd (other (own .0))) (λ beyond. omega arith) awaited-by)
+        awaited-less other there =
+            less-left (up .passed .isCut)
+            (sum-lt (at line) (at new) (workerCount log) (λ v l. up .grown v) (next .peer) (awaited-send .1)
+            (⊎-elim (λ own. absurd (other (own .0))) (λ beyond. omega arith) (awaited-for .1)))
 
         -- .. not as far
         pub awaited-stuck : at new (next .peer) < next .send → Stuck log i e new w
         awaited-stuck short =
             ⊎-elim (λ there. let no : ⊥ = omega arith in absurd no)
             (λ stuck.
-            let before = happened-to log ok (at new (next .peer) + 1) (next .send) (omega arith) (awaited-event .1) stuck in
-            stuck-stays new (up .passed) (at line w) w (up .grown w) (through before awaited-message))
+            let before = happened-to log (m .ok) (at new (next .peer) + 1) (next .send) (omega arith) (awaited-send .2) stuck in
+            stuck-stays log i e (m .ok) (m .event) new (up .passed) (at line w) w (up .grown w) (through before awaited-message))
             (up .reached)
-
-    -- workers that cannot be moved on: one more, when it has been moved on as far as it can go
-    pub stopped-more : (line new : List ℕ) (w : ℕ) → ((v : ℕ) → v < w → Stopped log i e line v) → Raised log i e w (count log w) line new
-        → (v : ℕ) → v < w + 1 → Stopped log i e new v
-    stopped-more line new w before up v h =
-        ⊎-elim (λ less. ⊎-elim (λ end. inl (omega (arith, up .grown v))) (λ stuck. inr (stuck-stays new (up .passed) (at line v) v (up .grown v) stuck)) (before v less))
-        (λ l. let here : v ≡ w = omega arith in rw here (up .reached))
-        (lt-or-le v w)
-
-    -- where none can, the line is the upper line
-    pub stopped-upper : (line : List ℕ) → Passed log i e line → ((w : ℕ) → w < size log → Stopped log i e line w) → line ≡ upperLine log i e
-    stopped-upper line p stopped =
-        ext-getD 0 line (upperLine log i e) (p .isCut .long ∙ sym (upper .isCut .long)) (λ w h. le-antisymm (inside w) (whole w (rw (p .isCut .long) at h)))
-      where
-        upper : Consistent log (upperLine log i e)
-        upper = upper-consistent log ok i e event
-
-        inside : (w : ℕ) → at line w ≤ at (upperLine log i e) w
-        inside w =
-            ⊎-elim
-            (λ positive. upper-happened log ok i e event w (at line w) (positive, p .isCut .within w) .1 (λ b. let less = passed-before line p b in omega arith))
-            (λ none. omega arith)
-            (lt-or-le 0 (at line w))
-
-        whole : (w : ℕ) → w < size log → at (upperLine log i e) w ≤ at line w
-        whole w h =
-            ⊎-elim (λ end. omega (arith, upper .isCut .within w))
-            (λ stuck.
-            ⊎-elim (λ less. absurd (upper-happened log ok i e event w (at line w + 1) (happened-rises log ok stuck .second) .0 (omega arith) stuck)) (λ l. l)
-            (lt-or-le (at line w) (at (upperLine log i e) w)))
-            (stopped w h)

@@ -14,17 +14,18 @@ use lib.Seq.{getD-set-same}
 use Rattle.ranges.specs.Fold.{sweep}
 use Rattle.ranges.proofs.Store.{set-grows}
 use Rattle.ranges.proofs.Sweep.{sweep-keeps, sweep-same}
-use Rattle.log.specs.Model.{Log, size, eventOf}
+use Rattle.log.specs.Model.{Workers, workerCount, eventOf}
 use Rattle.accept.specs.WellFormed.{WellFormed}
 use Rattle.causality.specs.Happened.{IsEvent, HappenedBefore}
-use Rattle.causality.specs.Cut.{at, Within, component}
+use Rattle.lent.specs.Lent.{at}
+use Rattle.causality.specs.Cut.{Within, component}
 use Rattle.causality.specs.Figure2.{Found, counted, stored, turnIf, turn, visit, visitAt}
 use Rattle.causality.proofs.Order.{Rising, happened-rises}
 use Rattle.causality.proofs.Components.{NamedBy, component-own, component-named, named-happened}
 
 -- words with which event e of worker i may be visited: one for each worker, and they hold the event
-pub record Ready (log : Log) (i e : ℕ) (cut : List ℕ) : Type 0 where
-  pub long : length cut ≡ size log
+pub record Ready (log : Workers) (i e : ℕ) (cut : List ℕ) : Type 0 where
+  pub long : length cut ≡ workerCount log
   pub holds : e ≤ at cut i
 
 -- later words: as many, and none smaller
@@ -45,17 +46,17 @@ pub grown-set : (cut : List ℕ) (v d : ℕ) → at cut v ≤ d → Grown cut (s
 grown-set cut v d h = record { long = length-set cut v d; grows = set-grows cut v d h }
 
 -- later words still hold the event
-pub grown-ready : {log : Log} {i e : ℕ} {cut later : List ℕ} → Ready log i e cut → Grown cut later → Ready log i e later
+pub grown-ready : {log : Workers} {i e : ℕ} {cut later : List ℕ} → Ready log i e cut → Grown cut later → Ready log i e later
 grown-ready {i} r g = record { long = g .long ∙ r .long; holds = omega (arith, r .holds, g .grows i) }
 
 -- worker v's component of event e of worker i is above the cut's: a receive of i names it, and it happened before
-pub record AboveCut (log : Log) (i e v : ℕ) (cut : List ℕ) : Type 0 where
+pub record AboveCut (log : Workers) (i e v : ℕ) (cut : List ℕ) : Type 0 where
   pub above : at cut v < component log i e v
   pub receive : ℕ
   pub named : NamedBy log i e v (component log i e v) receive
   pub happened : HappenedBefore log v (component log i e v) i e
 
-module _ (log : Log) where
+module _ (log : Workers) where
   -- a turn only raises the cut where its visits do
   pub turn-grows : (go : ℕ → ℕ → Found → Found) → ((v d : ℕ) (t : Found) → Grown (t .cut) (go v d t .cut)) → (i e v : ℕ) (t : Found) → Grown (t .cut) (turn go log i e v t .cut)
   unfolding turn turnIf
@@ -72,7 +73,7 @@ module _ (log : Log) where
   unfolding visit
   visit-grows zero i e s = grown-same (s .cut)
   visit-grows (suc depth) i e s =
-      sweep-keeps (turn (λ v d t. visit depth log v d t) log i e) (λ k t. Grown (s .cut) (t .cut)) (size log) (counted s) (grown-same (s .cut))
+      sweep-keeps (turn (λ v d t. visit depth log v d t) log i e) (λ k t. Grown (s .cut) (t .cut)) (workerCount log) (counted s) (grown-same (s .cut))
       (λ k t h g. grown-through g (turn-grows (λ v d u. visit depth log v d u) (visit-grows depth) i e k t))
 
   -- the visit with enough depth too
@@ -80,7 +81,7 @@ module _ (log : Log) where
   unfolding visitAt
   visitAt-grows i e s = visit-grows (suc (eventOf log i e .stamp)) i e s
 
-module _ (log : Log) (ok : WellFormed log) where
+module _ (log : Workers) (ok : WellFormed log) where
   -- worker v's turn: its component is within the cut and nothing is done, or it is stored and visited
   pub turn-cases : (i e v : ℕ) (t : Found) → IsEvent log i e → Ready log i e (t .cut)
       → ((component log i e v ≤ at (t .cut) v) × ((go : ℕ → ℕ → Found → Found) → turn go log i e v t ≡ t))
@@ -107,7 +108,7 @@ module _ (log : Log) (ok : WellFormed log) where
       test false q = inl (ltb-false (at (t .cut) v) (component log i e v) q, λ go. refl)
 
   -- the stored component may be visited
-  pub raised-ready : (i e v : ℕ) (cut : List ℕ) → v < size log → Ready log i e cut → Ready log v (component log i e v) (set cut v (component log i e v))
+  pub raised-ready : (i e v : ℕ) (cut : List ℕ) → v < workerCount log → Ready log i e cut → Ready log v (component log i e v) (set cut v (component log i e v))
   raised-ready i e v cut within ready =
       let same = getD-set-same cut v (component log i e v) 0 (rw (ready .long) within) in
       record { long = length-set cut v (component log i e v) ∙ ready .long; holds = omega arith }
@@ -116,9 +117,9 @@ module _ (log : Log) (ok : WellFormed log) where
   turns-same : (go other : ℕ → ℕ → Found → Found) (i e : ℕ) (s : Found) → IsEvent log i e → Ready log i e (s .cut)
       → ((v d : ℕ) (t : Found) → Grown (t .cut) (go v d t .cut))
       → ((v d : ℕ) (t : Found) → Rising log v d i e → Ready log v d (t .cut) → go v d t ≡ other v d t)
-      → sweep (turn go log i e) (size log) s ≡ sweep (turn other log i e) (size log) s
+      → sweep (turn go log i e) (workerCount log) s ≡ sweep (turn other log i e) (workerCount log) s
   turns-same go other i e s event ready grows same =
-      sweep-same (turn go log i e) (turn other log i e) (λ k t. Ready log i e (t .cut)) (size log) s ready
+      sweep-same (turn go log i e) (turn other log i e) (λ k t. Ready log i e (t .cut)) (workerCount log) s ready
       (λ k t h r. grown-ready r (turn-grows log go grows i e k t))
       (λ k t h r.
       let d = component log i e k in
@@ -139,7 +140,7 @@ module _ (log : Log) (ok : WellFormed log) where
 
   -- the figure's own equation: a visit is counted, and its turns visit in the same way
   pub visit-equation : (i e : ℕ) (s : Found) → IsEvent log i e → Ready log i e (s .cut)
-      → visitAt log i e s ≡ sweep (turn (visitAt log) log i e) (size log) (counted s)
+      → visitAt log i e s ≡ sweep (turn (visitAt log) log i e) (workerCount log) (counted s)
   unfolding visitAt visit
   visit-equation i e s event ready =
       turns-same (λ v d t. visit (eventOf log i e .stamp) log v d t) (visitAt log) i e (counted s) event ready (visit-grows log (eventOf log i e .stamp))

@@ -14,9 +14,10 @@ use Rattle.ranges.proofs.Max.{max-more, max-each, max-least, max-same}
 use Rattle.ranges.proofs.Order.{lt-or-le, eq-or-ne}
 use Rattle.ranges.proofs.Tabulate.{length-tabulate, getD-tabulate, tabulate-list}
 use Rattle.log.specs.declared.Event.{Event}
-use Rattle.log.specs.Model.{Log, size, eventOf, isReceive}
-use Rattle.causality.specs.Cut.{at, namedOf, component, vector}
-use Rattle.causality.specs.Row.{namedAfter, largestAfter, namedRow, noted}
+use Rattle.log.specs.Model.{Workers, workerCount, eventOf, isReceive}
+use Rattle.lent.specs.Lent.{at}
+use Rattle.causality.specs.Cut.{namedOf, component, vector}
+use Rattle.causality.specs.Inner.Row.{namedAfter, largestAfter, namedRow, noted}
 use Rattle.causality.proofs.Components.{component-own, component-other}
 
 noted-length : (e : Event) (words : List ℕ) → length (noted e words) ≡ length words
@@ -27,7 +28,7 @@ noted-length e words = go (isReceive e)
     go true = simp length-set
     go false = refl
 
-module _ (log : Log) (i from : ℕ) where
+module _ (log : Workers) (i from : ℕ) where
   after-none : (v : ℕ) → largestAfter log i from from v ≡ 0
   unfolding largestAfter namedAfter
   after-none v =
@@ -38,27 +39,30 @@ module _ (log : Log) (i from : ℕ) where
   unfolding largestAfter namedAfter
   after-more k v low = max-more (namedAfter log i from v) k ∙ rw (le-leb from k low)
 
-  pub row-none : replicate (size log) 0 ≡ namedRow log i from from
+  pub row-none : replicate (workerCount log) 0 ≡ namedRow log i from from
   unfolding namedRow
   row-none =
-      tabulate-list (largestAfter log i from from) (size log) 0 (replicate (size log) 0) (length-replicate (size log) 0)
-      (λ v h. getD-replicate (size log) v 0 0 h ∙ sym (after-none v))
+      tabulate-list (largestAfter log i from from) (workerCount log) 0 (replicate (workerCount log) 0) (length-replicate (workerCount log) 0)
+      (λ v h. getD-replicate (workerCount log) v 0 0 h ∙ sym (after-none v))
 
-  pub row-length : (k : ℕ) → length (namedRow log i from k) ≡ size log
+  pub row-length : (k : ℕ) → length (namedRow log i from k) ≡ workerCount log
   unfolding namedRow
-  row-length k = length-tabulate (largestAfter log i from k) (size log)
+  row-length k = length-tabulate (largestAfter log i from k) (workerCount log)
 
-  row-at : (k v : ℕ) → v < size log → at (namedRow log i from k) v ≡ largestAfter log i from k v
+  row-at : (k v : ℕ) → v < workerCount log → at (namedRow log i from k) v ≡ largestAfter log i from k v
   unfolding namedRow
-  row-at k v h = getD-tabulate (largestAfter log i from k) (size log) v 0 h
+  row-at k v h = getD-tabulate (largestAfter log i from k) (workerCount log) v 0 h
+
+  pub row-room : (k : ℕ) (row : List ℕ) → row ≡ namedRow log i from k → (v : ℕ) → v < workerCount log → v < length row
+  row-room k row q v h = rw (q, row-length k) h
 
   -- words that begin with the row
-  pub row-first : (k : ℕ) (row rest : List ℕ) → row ≡ namedRow log i from k → (v : ℕ) → v < size log → at (row ++ rest) v ≡ largestAfter log i from k v
+  pub row-first : (k : ℕ) (row rest : List ℕ) → row ≡ namedRow log i from k → (v : ℕ) → v < workerCount log → at (row ++ rest) v ≡ largestAfter log i from k v
   row-first k row rest q v h = rw q (List·getD-append (namedRow log i from k) rest 0 v (rw (row-length k) h) ∙ row-at k v h)
 
   -- one event more
   module _ (k : ℕ) (low : from ≤ k) where
-    noted-at : (v : ℕ) → v < size log → at (noted (eventOf log i (k + 1)) (namedRow log i from k)) v ≡ largestAfter log i from (k + 1) v
+    noted-at : (v : ℕ) → v < workerCount log → at (noted (eventOf log i (k + 1)) (namedRow log i from k)) v ≡ largestAfter log i from (k + 1) v
     unfolding noted namedOf
     noted-at v h = go (isReceive (eventOf log i (k + 1))) refl
       where
@@ -77,11 +81,11 @@ module _ (log : Log) (i from : ℕ) where
     pub row-more : noted (eventOf log i (k + 1)) (namedRow log i from k) ≡ namedRow log i from (k + 1)
     unfolding namedRow
     row-more =
-        tabulate-list (largestAfter log i from (k + 1)) (size log) 0 (noted (eventOf log i (k + 1)) (namedRow log i from k))
+        tabulate-list (largestAfter log i from (k + 1)) (workerCount log) 0 (noted (eventOf log i (k + 1)) (namedRow log i from k))
         (noted-length (eventOf log i (k + 1)) (namedRow log i from k) ∙ row-length k) noted-at
 
 -- the component of another worker, split at an earlier event
-module _ (log : Log) (i from e u : ℕ) (other : u ≢ i) where
+module _ (log : Workers) (i from e u : ℕ) (other : u ≢ i) where
   pub after-within : largestAfter log i from e u ≤ component log i e u
   unfolding largestAfter namedAfter
   after-within =
@@ -100,13 +104,13 @@ module _ (log : Log) (i from e u : ℕ) (other : u ≢ i) where
       (λ l. let each = max-each (namedAfter log i from u) e k h in let same : namedAfter log i from u k ≡ namedOf log i u k = rw (le-leb from k l) in omega arith)
       (lt-or-le k from)))
 
-module _ (log : Log) (i e : ℕ) where
+module _ (log : Workers) (i e : ℕ) where
   -- the component of another worker, where no event is passed over
   after-all : (v : ℕ) → v ≢ i → largestAfter log i 0 e v ≡ component log i e v
   unfolding largestAfter namedAfter
   after-all v other = max-same (namedAfter log i 0 v) (namedOf log i v) e (λ k h. rw (le-leb 0 k (omega arith))) ∙ sym (component-other log i e v other)
 
-  vector-at : (v : ℕ) → v < size log → i < size log → at (set (namedRow log i 0 e) i e) v ≡ component log i e v
+  vector-at : (v : ℕ) → v < workerCount log → i < workerCount log → at (set (namedRow log i 0 e) i e) v ≡ component log i e v
   vector-at v h l =
       ⊎-elim
       (λ same. rw same (getD-set-same (namedRow log i 0 e) i e 0 (rw (row-length log i 0 e) l) ∙ sym (component-own log i e)))
@@ -114,11 +118,11 @@ module _ (log : Log) (i e : ℕ) where
       (eq-or-ne v i)
 
   -- the vector: the row, with the event itself as component i
-  pub row-vector : i < size log → set (namedRow log i 0 e) i e ≡ vector log i e
+  pub row-vector : i < workerCount log → set (namedRow log i 0 e) i e ≡ vector log i e
   unfolding vector
   row-vector l =
-      tabulate-list (component log i e) (size log) 0 (set (namedRow log i 0 e) i e) (simp length-set (row-length log i 0 e)) (λ v h. vector-at v h l)
+      tabulate-list (component log i e) (workerCount log) 0 (set (namedRow log i 0 e) i e) (simp length-set (row-length log i 0 e)) (λ v h. vector-at v h l)
 
-  pub vector-length : length (vector log i e) ≡ size log
+  pub vector-length : length (vector log i e) ≡ workerCount log
   unfolding vector
-  vector-length = length-tabulate (component log i e) (size log)
+  vector-length = length-tabulate (component log i e) (workerCount log)

@@ -14,25 +14,26 @@ use Rattle.ranges.specs.Fold.{firstBelow}
 use Rattle.ranges.proofs.First.{IsFirst, first}
 use Rattle.ranges.proofs.Order.{lt-or-le, eq-or-ne}
 use Rattle.ranges.proofs.Tabulate.{length-tabulate, getD-tabulate, getD-tabulate-past}
-use Rattle.log.specs.Model.{Log, size, count, eventOf, isReceive}
+use Rattle.log.specs.Model.{Workers, workerCount, eventCount, eventOf, isReceive}
 use Rattle.log.proofs.Read.{worker-within}
 use Rattle.accept.specs.WellFormed.{WellFormed}
 use Rattle.causality.specs.Happened.{IsEvent, HappenedBefore, earlier, message, through}
-use Rattle.causality.specs.Cut.{at, IsCut, Consistent, Within}
+use Rattle.lent.specs.Lent.{at}
+use Rattle.causality.specs.Cut.{IsCut, Consistent, Within}
 use Rattle.causality.specs.Figure2.{lowerCut}
 use Rattle.causality.specs.Upper.{happened, upperAt, upperLine}
 use Rattle.causality.proofs.Order.{receive-event, send-rises, happened-rises, happened-irreflexive, happened-to, Through, happened-last, consistent-holds}
 use Rattle.causality.proofs.LowerCut.{lower-is, lower-happened}
 
 -- a line that is closed and cannot be extended: the words are a cut that ends at the breakpoint event, ..
-pub record IsUpper (log : Log) (i e : ℕ) (line : List ℕ) : Type 0 where
+pub record IsUpper (log : Workers) (i e : ℕ) (line : List ℕ) : Type 0 where
   pub isCut : IsCut log line
   pub own : at line i ≡ e
   -- .. every receive within them has its send within them, and is not of the breakpoint event's message, ..
   pub closed : (w k : ℕ) → k < at line w → isReceive (eventOf log w (k + 1)) ≡ true
       → (eventOf log w (k + 1) .send ≤ at line (eventOf log w (k + 1) .peer)) × (((eventOf log w (k + 1) .peer ≡ i) × (eventOf log w (k + 1) .send ≡ e)) → ⊥)
   -- .. and each other worker's next event is a receive of the breakpoint event's message, or of a send that is not within them
-  pub maximal : (w : ℕ) → w ≢ i → at line w < count log w
+  pub maximal : (w : ℕ) → w ≢ i → at line w < eventCount log w
       → (isReceive (eventOf log w (at line w + 1)) ≡ true)
       × (((eventOf log w (at line w + 1) .peer ≡ i) × (eventOf log w (at line w + 1) .send ≡ e))
       ⊎ (at line (eventOf log w (at line w + 1) .peer) < eventOf log w (at line w + 1) .send))
@@ -46,9 +47,9 @@ another i e w x = (λ t same. false≢true (rw (eq-eqb i w (same .0), eq-eqb e x
     test true p false q n = refl
     test false p c q n = refl
 
-module _ (log : Log) (ok : WellFormed log) (i e : ℕ) (event : IsEvent log i e) where
+module _ (log : Workers) (ok : WellFormed log) (i e : ℕ) (event : IsEvent log i e) where
   -- the test of the upper line is "happened before"
-  pub happened-test : (w k : ℕ) → k < count log w → (happened log i e w k ≡ true) ↔ HappenedBefore log i e w (k + 1)
+  pub happened-test : (w k : ℕ) → k < eventCount log w → (happened log i e w k ≡ true) ↔ HappenedBefore log i e w (k + 1)
   unfolding happened
   happened-test w k h = (to (leb e (at (lowerCut log w (k + 1)) i)) refl, from)
     where
@@ -64,19 +65,19 @@ module _ (log : Log) (ok : WellFormed log) (i e : ℕ) (event : IsEvent log i e)
           rw (le-leb e (at (lowerCut log w (k + 1)) i) (lower .1 (inr b)))
           (another i e w (k + 1) .1 (λ same. happened-irreflexive log ok (rw (sym (same .0), sym (same .1)) at b)))
 
-  upper-word : (w : ℕ) → w < size log → at (upperLine log i e) w ≡ firstBelow (happened log i e w) (count log w)
+  upper-word : (w : ℕ) → w < workerCount log → at (upperLine log i e) w ≡ firstBelow (happened log i e w) (eventCount log w)
   unfolding upperLine upperAt
-  upper-word w h = getD-tabulate (upperAt log i e) (size log) w 0 h
+  upper-word w h = getD-tabulate (upperAt log i e) (workerCount log) w 0 h
 
   -- an event is within the upper line exactly when the breakpoint event did not happen before it
   pub upper-happened : (w x : ℕ) → IsEvent log w x → (x ≤ at (upperLine log i e) w) ↔ (HappenedBefore log i e w x → ⊥)
   upper-happened w x is = (to, from)
     where
-      word : at (upperLine log i e) w ≡ firstBelow (happened log i e w) (count log w)
+      word : at (upperLine log i e) w ≡ firstBelow (happened log i e w) (eventCount log w)
       word = upper-word w (worker-within log w 0 (omega arith))
 
-      f : IsFirst (happened log i e w) (count log w) (firstBelow (happened log i e w) (count log w))
-      f = first (happened log i e w) (count log w)
+      f : IsFirst (happened log i e w) (eventCount log w) (firstBelow (happened log i e w) (eventCount log w))
+      f = first (happened log i e w) (eventCount log w)
 
       to : x ≤ at (upperLine log i e) w → HappenedBefore log i e w x → ⊥
       to h b =
@@ -88,7 +89,7 @@ module _ (log : Log) (ok : WellFormed log) (i e : ℕ) (event : IsEvent log i e)
       from n =
           ⊎-elim
           (λ less.
-          let u = firstBelow (happened log i e w) (count log w) in
+          let u = firstBelow (happened log i e w) (eventCount log w) in
           let b = happened-test w u (omega (arith, word)) .0 (f .found (omega (arith, word))) in
           absurd (n (happened-to log ok (u + 1) x (omega (arith, word)) (is .1) b)))
           (λ l. l)
@@ -98,10 +99,10 @@ module _ (log : Log) (ok : WellFormed log) (i e : ℕ) (event : IsEvent log i e)
   unfolding upperLine
   upper-cut =
       record {
-        long = length-tabulate (upperAt log i e) (size log);
+        long = length-tabulate (upperAt log i e) (workerCount log);
         within = λ w.
-            ⊎-elim (λ inside. omega (arith, upper-word w inside, first (happened log i e w) (count log w) .bound))
-            (λ past. omega (arith, getD-tabulate-past (upperAt log i e) (size log) w 0 past)) (lt-or-le w (size log));
+            ⊎-elim (λ inside. omega (arith, upper-word w inside, first (happened log i e w) (eventCount log w) .bound))
+            (λ past. omega (arith, getD-tabulate-past (upperAt log i e) (workerCount log) w 0 past)) (lt-or-le w (workerCount log));
       }
 
   -- the upper line ends at the breakpoint event on its own worker
@@ -138,12 +139,12 @@ module _ (log : Log) (ok : WellFormed log) (i e : ℕ) (event : IsEvent log i e)
           (lower-happened log ok i e event w (suc x) is .0 (omega arith)))
 
   -- the first event beyond the line: a receive through which the breakpoint event comes, and no earlier one
-  upper-next : (w : ℕ) → w ≢ i → at (upperLine log i e) w < count log w
+  upper-next : (w : ℕ) → w ≢ i → at (upperLine log i e) w < eventCount log w
       → (z : ℕ) × (z ≡ at (upperLine log i e) w + 1) × Through log i e w (at (upperLine log i e) w + 1) z
   upper-next w other less =
       let u = at (upperLine log i e) w in
       let word = upper-word w (worker-within log w u less) in
-      let b = happened-test w u less .0 (rw word (first (happened log i e w) (count log w) .found (rw word at less))) in
+      let b = happened-test w u less .0 (rw word (first (happened log i e w) (eventCount log w) .found (rw word at less))) in
       ⊎-elim (λ same. absurd (other (sym (same .0)))) (λ t. (t .0, last (t .0) (t .1), t .1)) (happened-last b)
     where
       last : (z : ℕ) → Through log i e w (at (upperLine log i e) w + 1) z → z ≡ at (upperLine log i e) w + 1
@@ -187,7 +188,7 @@ module _ (log : Log) (ok : WellFormed log) (i e : ℕ) (event : IsEvent log i e)
     line-before (through a b) p q h = line-before a p q (consistent-holds log ok line line-consistent b h)
 
     -- all events beyond the line have it before them
-    line-beyond : (bound w x : ℕ) → eventOf log w x .stamp < bound → at line w < x → x ≤ count log w → HappenedBefore log i e w x
+    line-beyond : (bound w x : ℕ) → eventOf log w x .stamp < bound → at line w < x → x ≤ eventCount log w → HappenedBefore log i e w x
     line-beyond zero w x small less l = absurd (not-suc-le-zero small)
     line-beyond (suc bound) w x small less l = ⊎-elim own (next (line-beyond bound)) (eq-or-ne w i)
       where
@@ -196,7 +197,7 @@ module _ (log : Log) (ok : WellFormed log) (i e : ℕ) (event : IsEvent log i e)
             let after : e < x = let word : at line w ≡ e = ap (at line) q ∙ is .own in omega arith in
             rw q (earlier (event .0) after (rw q at l))
 
-        next : ((v y : ℕ) → eventOf log v y .stamp < bound → at line v < y → y ≤ count log v → HappenedBefore log i e v y) → w ≢ i → HappenedBefore log i e w x
+        next : ((v y : ℕ) → eventOf log v y .stamp < bound → at line v < y → y ≤ eventCount log v → HappenedBefore log i e v y) → w ≢ i → HappenedBefore log i e w x
         next recur other =
             let m = is .maximal w other (omega arith) in
             let sent = happened-to log ok (at line w + 1) x (omega arith) l (message (m .0) refl refl) in

@@ -11,7 +11,7 @@ use lib.Dec.{ltb}
 use lib.Pow.{pow-pos, pow-add, high}
 use Rattle.ranges.specs.Fold.{sumBelow}
 use Rattle.ranges.proofs.Sum.{sum-none, sum-more}
-use Rattle.causality.specs.Cut.{at}
+use Rattle.lent.specs.Lent.{at}
 use Rattle.causality.specs.Workers.{bitOf, workersWord}
 
 -- a bit put above a number below 2 ^ n is its bit n, ..

@@ -2,9 +2,7 @@ pub mod Happened
 pub mod Cut
 pub mod Figure2
 pub mod Upper
-pub mod Row
-pub mod Raising
-pub mod Visiting
 pub mod Workers
-pub mod Lent
+pub mod Refusals
 pub mod Calls
+pub mod Inner

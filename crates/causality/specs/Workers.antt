@@ -5,7 +5,7 @@ use mathlib.Core.List.{List}
 use Prim.Native.Nat.{ℕ, _^_}
 use lib.Dec.{ltb}
 use Rattle.ranges.specs.Fold.{sumBelow}
-use Rattle.causality.specs.Cut.{at}
+use Rattle.lent.specs.Lent.{at}
 
 -- "bit w set exactly when cut w is above 0"
 unfoldable pub bitOf : List ℕ → ℕ → ℕ

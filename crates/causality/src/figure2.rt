@@ -2,17 +2,17 @@
 
 ghost use mathlib.Core.Path.{_≡_};
 ghost use Prim.Native.Nat.{_≤_};
-ghost use Rattle.log.specs.Layout.{logOf};
-ghost use Rattle.accept.specs.Refusal.{refusal};
+ghost use Rattle.log.specs.Layout.{workersOf};
+ghost use Rattle.accept.specs.Refusal.{logRefusal};
 ghost use Rattle.causality.specs.Figure2.{visitAt};
-ghost use Rattle.causality.specs.Visiting.{Visiting};
+ghost use Rattle.causality.specs.Inner.Visiting.{Visiting};
 
-// A visit to an event of worker i, of which the first `from` are covered by the cut. The stamps of the visited events fall.
+// A visit to event `event` of worker i, whose first `from` events the cut covers. The stamps of the visited events fall.
 pub fn visit(log: &[u8], i: usize, from: u32, event: u32, cut: &mut [u32], visits: u64) -> u64
-    requires { ⌜ (refusal (now log) ≡ 0) × (from ≤ event) × Visiting (logOf (now log)) i from event (now cut) visits ⌝ }
-    ensures { λ r. ⌜ record { cut = now (cut .exit); visits = r } ≡ visitAt (logOf (now (log .entry))) i event (record { cut = now (cut .entry); visits = visits }) ⌝ }
+    requires { ⌜ (logRefusal (now log) ≡ 0) × (from ≤ event) × Visiting (workersOf (now log)) i from event (now cut) visits ⌝ }
+    ensures found { λ r. ⌜ record { cut = now (cut .exit); visits = r } ≡ visitAt (workersOf (now (log .entry))) i event (record { cut = now (cut .entry); visits = visits }) ⌝ }
 {
-    let n = log::size_of(log);
+    let n = log::worker_count(log);
     let mut row: [u32; log::MAX_WORKERS] = [0; log::MAX_WORKERS];
     super::note_all(log, i, from, event, &mut row[..n]);
     let mut total = visits + 1;

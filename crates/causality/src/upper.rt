@@ -4,18 +4,18 @@ ghost use mathlib.Core.Path.{_≡_};
 ghost use mathlib.Core.Logic.{_≢_};
 ghost use Prim.Native.Nat.{_+_, _<_, _≤_};
 ghost use lib.ListN.{length};
-ghost use Rattle.log.specs.Layout.{logOf};
-ghost use Rattle.log.specs.Model.{size, count};
-ghost use Rattle.accept.specs.Refusal.{refusal};
+ghost use Rattle.log.specs.Layout.{workersOf};
+ghost use Rattle.log.specs.Model.{workerCount, eventCount};
+ghost use Rattle.accept.specs.Refusal.{logRefusal};
 ghost use Rattle.causality.specs.Happened.{IsEvent};
 ghost use Rattle.causality.specs.Upper.{upperLine};
-ghost use Rattle.causality.specs.Raising.{blocked, Passed, Raised};
+ghost use Rattle.causality.specs.Inner.Raising.{blocked, Passed, Raised};
 
 // Whether event k + 1 of worker w is a receive of a send beyond the line, or of the breakpoint event's message. A send names 0, which is
 // neither.
 fn is_blocked(log: &[u8], i: usize, event: u32, w: usize, k: u32, line: &[u32]) -> bool
-    requires { ⌜ (refusal (now log) ≡ 0) × (length (now line) ≡ size (logOf (now log))) × (k < count (logOf (now log)) w) × (0 < event) ⌝ }
-    ensures { λ r. ⌜ r ≡ blocked (logOf (now (log .entry))) i event (now (line .entry)) w k ⌝ }
+    requires { ⌜ (logRefusal (now log) ≡ 0) × (length (now line) ≡ workerCount (workersOf (now log))) × (k < eventCount (workersOf (now log)) w) × (0 < event) ⌝ }
+    ensures answer { λ r. ⌜ r ≡ blocked (workersOf (now (log .entry))) i event (now (line .entry)) w k ⌝ }
 {
     let e = log::event_at(log, w, k + 1);
     let peer = e.peer as usize;
@@ -31,8 +31,9 @@ fn is_blocked(log: &[u8], i: usize, event: u32, w: usize, k: u32, line: &[u32]) 
 // Moves worker w on to event `target`, or to just before its first event that the breakpoint event happened before. A sender is moved on
 // first, as far as its message is awaited; the stamps of the awaited events fall.
 fn raise(log: &[u8], i: usize, event: u32, w: usize, target: u32, line: &mut [u32])
-    requires { ⌜ (refusal (now log) ≡ 0) × IsEvent (logOf (now log)) i event × (w < size (logOf (now log))) × (w ≢ i) × (target ≤ count (logOf (now log)) w) × Passed (logOf (now log)) i event (now line) ⌝ }
-    ensures { λ _. ⌜ Raised (logOf (now (log .entry))) i event w target (now (line .entry)) (now (line .exit)) ⌝ }
+    requires { ⌜ (logRefusal (now log) ≡ 0) × IsEvent (workersOf (now log)) i event × (w < workerCount (workersOf (now log))) × (w ≢ i)
+        × (target ≤ eventCount (workersOf (now log)) w) × Passed (workersOf (now log)) i event (now line) ⌝ }
+    ensures line { λ _. ⌜ Raised (workersOf (now (log .entry))) i event w target (now (line .entry)) (now (line .exit)) ⌝ }
 {
     while line[w] < target {
         let k = line[w];
@@ -54,24 +55,24 @@ fn raise(log: &[u8], i: usize, event: u32, w: usize, target: u32, line: &mut [u3
 
 // Moves worker w on as far as it can go. The breakpoint's own worker stays.
 fn raise_worker(log: &[u8], i: usize, event: u32, w: usize, line: &mut [u32])
-    requires { ⌜ (refusal (now log) ≡ 0) × IsEvent (logOf (now log)) i event × (w < size (logOf (now log))) × Passed (logOf (now log)) i event (now line) ⌝ }
-    ensures { λ _. ⌜ Raised (logOf (now (log .entry))) i event w (count (logOf (now (log .entry))) w) (now (line .entry)) (now (line .exit)) ⌝ }
+    requires { ⌜ (logRefusal (now log) ≡ 0) × IsEvent (workersOf (now log)) i event × (w < workerCount (workersOf (now log))) × Passed (workersOf (now log)) i event (now line) ⌝ }
+    ensures line { λ _. ⌜ Raised (workersOf (now (log .entry))) i event w (eventCount (workersOf (now (log .entry))) w) (now (line .entry)) (now (line .exit)) ⌝ }
 {
     if w == i {
         return;
     }
-    let number = log::count_of(log, w);
-    raise(log, i, event, w, number, line);
+    let count = log::event_count(log, w);
+    raise(log, i, event, w, count, line);
 }
 
 // The upper line of event `event` of worker i, in as many words as there are workers.
 pub fn upper_into(log: &[u8], i: usize, event: u32, line: &mut [u32])
-    requires { ⌜ (refusal (now log) ≡ 0) × (length (now line) ≡ size (logOf (now log))) × (i < size (logOf (now log))) × IsEvent (logOf (now log)) i event ⌝ }
-    ensures { λ _. ⌜ now (line .exit) ≡ upperLine (logOf (now (log .entry))) i event ⌝ }
+    requires { ⌜ (logRefusal (now log) ≡ 0) × (length (now line) ≡ workerCount (workersOf (now log))) × (i < workerCount (workersOf (now log))) × IsEvent (workersOf (now log)) i event ⌝ }
+    ensures line { λ _. ⌜ now (line .exit) ≡ upperLine (workersOf (now (log .entry))) i event ⌝ }
 {
-    super::clear(line);
+    lent::clear(line);
     line[i] = event;
-    let n = log::size_of(log);
+    let n = log::worker_count(log);
     let mut w: usize = 0;
     while w < n {
         raise_worker(log, i, event, w, line);

@@ -8,12 +8,6 @@ use borrow.Author.Needs.{needs}
 use Rattle.causality.proofs.bit.Statement.{statement}
 use Rattle.causality.proofs.bit.Tie as tie
 
-mul-if1 : tie.Need-mul-if1
-mul-if1 c = search needs
-
-shared-slice-read-if1 : tie.Need-shared-slice-read-if1
-shared-slice-read-if1 c = search needs
-
 returns : tie.Need-returns
 unfolding bitOf
 returns c = rw (c .if1 .taken)
@@ -26,4 +20,4 @@ unfolding bitOf
 returns-2 c = rw (lt-ltb 0 _ (pos-of-ne-zero (c .if1 .left)), one-mul, mod-eq-of-lt (pow-lt (c .before .before .pre .1)))
 
 pub bit-spec : {M : Type 1} → statement M
-bit-spec = tie.close (tie.spec mul-if1 shared-slice-read-if1 returns shl-result returns-2)
+bit-spec = tie.close (tie.spec (λ c. search needs) (λ c. search needs) returns shl-result returns-2)

@@ -2,26 +2,28 @@
 use mathlib.Core.Path.{sym, _∙_}
 use borrow.Author.Tests.{ne-eqb}
 use Rattle.accept.proofs.Accepted.{well-formed}
-use Rattle.causality.specs.Calls.{testAnswer}
-use Rattle.causality.proofs.Lent.{test-ok}
+use Rattle.causality.specs.Calls.{yesUnless}
+use Rattle.causality.proofs.Allowed.{test-ok}
 use Rattle.causality.proofs.CutTest.{first-words}
 use borrow.Author.Needs.{needs}
 use Rattle.causality.proofs.cut_test.Statement.{statement}
 use Rattle.causality.proofs.cut_test.Tie as tie
 
-test-refusal-requires : tie.Need-test-refusal-requires
-test-refusal-requires c κs = search needs
-
 returns : tie.Need-returns
-unfolding testAnswer
-returns c = rw (← c .before .test-refusal .ensures, ne-eqb _ _ (c .if1 .taken))
+unfolding yesUnless
+returns c = (c .before .test-refusal .ensures, rw (ne-eqb _ _ (c .if1 .taken)))
 
 some-lacks-requires : tie.Need-some-lacks-requires
-some-lacks-requires c κs = test-ok _ _ (sym (c .before .test-refusal .ensures) ∙ c .if1 .left)
+some-lacks-requires c κs =
+    let lent = test-ok _ _ _ (c .before .test-refusal .ensures) (c .if1 .left) in
+    (lent .0, lent .1, lent .2)
 
 returns-2 : tie.Need-returns-2
-unfolding testAnswer
-returns-2 c = let ok = test-ok _ _ (sym (c .before .before .test-refusal .ensures) ∙ c .before .if1 .left) in rw ((sym (c .before .before .test-refusal .ensures) ∙ c .before .if1 .left), c .some-lacks .ensures, first-words _ (well-formed _ (ok .0)) _)
+unfolding yesUnless
+returns-2 c =
+    let found = c .before .before .test-refusal .ensures in
+    let none = c .before .if1 .left in
+    (sym none ∙ found, rw (c .some-lacks .ensures, first-words _ (well-formed _ (test-ok _ _ _ found none .0)) _))
 
 pub cut-test-spec : {M : Type 1} → statement M
-cut-test-spec = tie.close (tie.spec test-refusal-requires returns some-lacks-requires returns-2)
+cut-test-spec = tie.close (tie.spec (λ c κs. search needs) returns some-lacks-requires returns-2)

@@ -6,18 +6,19 @@ use borrow.Author.Needs.{needs}
 use Rattle.causality.proofs.found_cut.Statement.{statement}
 use Rattle.causality.proofs.found_cut.Tie as tie
 
-cut-into-requires : tie.Need-cut-into-requires
-cut-into-requires c κs = search needs
-
 workers-word-requires : tie.Need-workers-word-requires
-workers-word-requires c κs = rw (c .before .before .before .cut-into .ensures .0, (lower-is _ (well-formed _ (c .before .before .before .before .before .before .before .pre .0)) _ _ (c .before .before .before .before .before .before .before .pre .3) .consistent .isCut .long)) (well-formed _ (c .before .before .before .before .before .before .before .pre .0) .few)
-
-same-length : tie.Need-same-length
-same-length c = search needs
+workers-word-requires c κs =
+    let pre = c .before .before .before .before .before .before .before .pre in
+    let ok = well-formed _ (pre .0) in
+    rw (c .before .before .before .cut-into .ensures .0, lower-is _ ok _ _ (pre .3) .consistent .isCut .long) (ok .few)
 
 returns : tie.Need-returns
 unfolding foundCut
-returns c = (rw (c .workers-word .ensures, c .before .before .before .before .cut-into .ensures .0, c .before .before .before .before .cut-into .ensures .1, (lower-is _ (well-formed _ (c .before .before .before .before .before .before .before .before .pre .0)) _ _ (c .before .before .before .before .before .before .before .before .pre .3) .consistent .isCut .long)), c .before .before .before .before .cut-into .ensures .0)
+returns c =
+    let pre = c .before .before .before .before .before .before .before .before .pre in
+    let found = c .before .before .before .before .cut-into .ensures in
+    let long = lower-is _ (well-formed _ (pre .0)) _ _ (pre .3) .consistent .isCut .long in
+    (rw (c .workers-word .ensures, found .0, found .1, long), found .0)
 
 pub found-cut-spec : {M : Type 1} → statement M
-found-cut-spec = tie.close (tie.spec cut-into-requires workers-word-requires same-length returns)
+found-cut-spec = tie.close (tie.spec (λ c κs. search needs) workers-word-requires (λ c. search needs) returns)

@@ -14,19 +14,14 @@ add-event-at c = omega (arith, count-field _ (accepted-layout _ (c .before .befo
 event-at-requires : tie.Need-event-at-requires
 event-at-requires c κs = accepted-layout _ (c .before .before .pre .0)
 
-cast-peer : tie.Need-cast-peer
-cast-peer c = search needs
-
-mul-result : tie.Need-mul-result
-mul-result c = search needs
-
 shared-slice-read-result : tie.Need-shared-slice-read-result
-shared-slice-read-result c = lt-of-lt-of-le (peer-within _ (c .before .before .before .before .before .pre .0) _ _ _ (c .before .before .event-at .ensures) (c .before .before .before .before .before .pre .2)) (c .before .before .before .before .before .pre .1)
+shared-slice-read-result c =
+    let pre = c .before .before .before .before .before .pre in
+    lt-of-lt-of-le (peer-within _ (pre .0) _ _ _ (c .before .before .event-at .ensures) (pre .2)) (pre .1)
 
 returns : tie.Need-returns
 returns c = lacks-any _ (c .before .before .before .before .before .before .pre .0) _ _ _ (c .before .before .before .event-at .ensures) (c .before .before .before .before .before .before .pre .2) _
 
 pub is-lacking-spec : {M : Type 1} → statement M
 is-lacking-spec =
-    tie.close
-    (tie.spec add-event-at event-at-requires cast-peer mul-result shared-slice-read-result returns)
+    tie.close (tie.spec add-event-at event-at-requires (λ c. search needs) (λ c. search needs) shared-slice-read-result returns)

@@ -13,41 +13,22 @@ add-event-at c = omega (arith, count-field _ (accepted-layout _ (c .before .befo
 event-at-requires : tie.Need-event-at-requires
 event-at-requires c κs = accepted-layout _ (c .before .before .pre .0)
 
-cast-peer : tie.Need-cast-peer
-cast-peer c = search needs
-
-mul-held : tie.Need-mul-held
-mul-held c = search needs
-
 slice-read-held : tie.Need-slice-read-held
-slice-read-held c = rw (c .before .before .before .before .before .pre .1) (peer-within _ (c .before .before .before .before .before .pre .0) _ _ _ (c .before .before .event-at .ensures) (c .before .before .before .before .before .pre .2))
-
-larger-requires : tie.Need-larger-requires
-larger-requires c κs = search needs
-
-mul-words : tie.Need-mul-words
-mul-words c = search needs
+slice-read-held c =
+    let pre = c .before .before .before .before .before .pre in
+    rw (pre .1) (peer-within _ (pre .0) _ _ _ (c .before .before .event-at .ensures) (pre .2))
 
 slice-write-words : tie.Need-slice-write-words
-slice-write-words c = rw (c .before .before .before .before .before .before .pre .1) (peer-within _ (c .before .before .before .before .before .before .pre .0) _ _ _ (c .before .before .before .event-at .ensures) (c .before .before .before .before .before .before .pre .2))
-
-same-length : tie.Need-same-length
-same-length c = search needs
+slice-write-words c =
+    let pre = c .before .before .before .before .before .before .pre in
+    rw (pre .1) (peer-within _ (pre .0) _ _ _ (c .before .before .before .event-at .ensures) (pre .2))
 
 returns : tie.Need-returns
-returns c = rw (c .larger .ensures, ← c .before .before .before .event-at .ensures) (noted-any _ (c .before .before .before .before .before .before .pre .0) _ _ _ (c .before .before .before .event-at .ensures) (c .before .before .before .before .before .before .pre .2) _)
+returns c =
+    let pre = c .before .before .before .before .before .before .pre in
+    let read = c .before .before .before .event-at .ensures in
+    rw (c .larger .ensures, ← read) (noted-any _ (pre .0) _ _ _ read (pre .2) _)
 
 pub note-spec : {M : Type 1} → statement M
 note-spec =
-    tie.close
-    (tie.spec
-    add-event-at
-    event-at-requires
-    cast-peer
-    mul-held
-    slice-read-held
-    larger-requires
-    mul-words
-    slice-write-words
-    same-length
-    returns)
+    tie.close (tie.spec add-event-at event-at-requires (λ c. search needs) (λ c. search needs) slice-read-held (λ c κs. search needs) (λ c. search needs) slice-write-words (λ c. search needs) returns)

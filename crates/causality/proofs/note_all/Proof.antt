@@ -5,14 +5,14 @@ use native.Mathlib.Nat.{le-antisymm}
 use native.Mathlib.Omega.{arith}
 use borrow.Author.Needs.{needs}
 use lib.ListN.{length-replicate}
-use Rattle.log.specs.Layout.{logOf}
-use Rattle.causality.specs.Row.{namedRow}
+use Rattle.log.specs.Layout.{workersOf}
+use Rattle.causality.specs.Inner.Row.{namedRow}
 use Rattle.causality.proofs.Row.{row-none, row-length, row-more}
 use Rattle.causality.proofs.note_all.Statement.{statement}
 use Rattle.causality.proofs.note_all.Tie as tie
 
 abbrev Inv-loop : tie.InvT-loop
-Inv-loop log i from event words₀ k₀ words k = (from ≤ k) × (k ≤ event) × (words ≡ namedRow (logOf log) i from k)
+Inv-loop log i from event words₀ k₀ words k = (from ≤ k) × (k ≤ event) × (words ≡ namedRow (workersOf log) i from k)
 
 abbrev μ-loop : tie.MeasureT-loop
 μ-loop log i from event words₀ k₀ words k = event - k
@@ -21,7 +21,9 @@ loop-holds : tie.Need-loop-holds Inv-loop μ-loop
 loop-holds c = (search needs, c .before .before .pre .2, c .before .before .pre .1 ∙ row-none _ _ _)
 
 note-requires : tie.Need-note-requires Inv-loop μ-loop
-note-requires c κs = (c .before .before .before .before .before .pre .0, rw (c .before .before .loop .inv .2) (row-length _ _ _ _), omega (arith, c .before .before .before .before .before .pre .3))
+note-requires c κs =
+    let pre = c .before .before .before .before .before .pre in
+    (pre .0, rw (c .before .before .loop .inv .2) (row-length _ _ _ _), omega (arith, pre .3))
 
 add-k : tie.Need-add-k Inv-loop μ-loop
 add-k c = omega (arith, c .before .before .before .before .before .loop .inv .1)
@@ -30,7 +32,10 @@ loop-less : tie.Need-loop-less Inv-loop μ-loop
 loop-less c = omega (arith, c .before .before .before .before .loop-test .taken)
 
 loop-again : tie.Need-loop-again Inv-loop μ-loop
-loop-again c = (omega (arith, c .before .before .before .before .before .loop .inv .0), omega (arith, c .before .before .before .before .loop-test .taken), c .before .before .note .ensures ∙ rw (c .before .before .before .before .before .loop .inv .2) (row-more _ _ _ _ (c .before .before .before .before .before .loop .inv .0)))
+loop-again c =
+    let inv = c .before .before .before .before .before .loop .inv in
+    let test = c .before .before .before .before .loop-test .taken in
+    (omega arith, omega arith, c .before .before .note .ensures ∙ rw (inv .2) (row-more _ _ _ _ (inv .0)))
 
 same-length : tie.Need-same-length Inv-loop μ-loop
 same-length c = rw (c .before .loop .inv .2, c .before .before .before .before .pre .1) (row-length _ _ _ _ ∙ sym (length-replicate _ _))

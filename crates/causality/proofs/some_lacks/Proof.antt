@@ -1,36 +1,36 @@
 -- `causality::some_lacks` meets its contract. Assumes nothing.
-use mathlib.Core.Path.{_≡_, sym, _∙_}
-use mathlib.Core.Bool.{false}
-use Prim.Native.Nat.{_≤_, _-_}
-use native.Mathlib.Nat.{le-antisymm}
+use Prim.Native.Nat.{_-_}
 use native.Mathlib.Omega.{arith}
-use borrow.Author.Needs.{needs}
-use Rattle.ranges.specs.Fold.{anyBelow}
-use Rattle.ranges.proofs.Any.{any-none, any-more, any-found}
-use Rattle.log.specs.Layout.{logOf}
+use Rattle.ranges.proofs.Any.{Sought, sought-none, sought-more, sought-found, sought-end}
+use Rattle.log.specs.Layout.{workersOf}
 use Rattle.accept.proofs.Accepted.{accepted-layout}
 use Rattle.causality.specs.Cut.{workerLacks}
-use Rattle.causality.proofs.Lent.{under}
+use Rattle.causality.proofs.Allowed.{under}
 use Rattle.causality.proofs.some_lacks.Statement.{statement}
 use Rattle.causality.proofs.some_lacks.Tie as tie
 
 abbrev Inv-loop : tie.InvT-loop
-Inv-loop log cut n w₀ w = (w ≤ n) × (anyBelow (workerLacks (logOf log) cut) w ≡ false)
+Inv-loop log cut n w₀ w = Sought (workerLacks (workersOf log) cut) n w
 
 abbrev μ-loop : tie.MeasureT-loop
 μ-loop log cut n w₀ w = n - w
 
-size-of-requires : tie.Need-size-of-requires Inv-loop μ-loop
-size-of-requires c κs = accepted-layout _ (c .before .before .pre .0)
+worker-count-requires : tie.Need-worker-count-requires Inv-loop μ-loop
+worker-count-requires c κs = accepted-layout _ (c .before .before .pre .0)
 
 loop-holds : tie.Need-loop-holds Inv-loop μ-loop
-loop-holds c = (search needs, any-none _)
+loop-holds c = sought-none
 
 worker-lacks-requires : tie.Need-worker-lacks-requires Inv-loop μ-loop
-worker-lacks-requires c κs = let inside = rw (c .before .before .size-of .ensures .0) at (c .loop-test .taken) in (c .before .before .before .before .before .pre .0, c .before .before .before .before .before .pre .1, inside, under _ _ (c .before .before .before .before .before .pre .2) _ inside)
+worker-lacks-requires c κs =
+    let pre = c .before .before .before .before .before .pre in
+    let inside = rw (c .before .before .worker-count .ensures .0) at (c .loop-test .taken) in
+    (pre .0, pre .1, inside, under _ _ (pre .2) _ inside)
 
 returns : tie.Need-returns Inv-loop μ-loop
-returns c = sym (any-found _ _ (c .before .before .before .loop .w) (rw (c .before .before .before .before .size-of .ensures .0) at (c .before .before .loop-test .taken)) (sym (c .before .worker-lacks .ensures) ∙ c .if1 .taken))
+returns c =
+    sought-found (c .before .before .before .loop .inv) (c .before .before .loop-test .taken) (c .before .worker-lacks .ensures) (c .if1 .taken)
+    (c .before .before .before .before .worker-count .ensures .0)
 
 add-w : tie.Need-add-w Inv-loop μ-loop
 add-w c = omega (arith, c .before .before .loop-test .taken)
@@ -39,10 +39,10 @@ loop-less : tie.Need-loop-less Inv-loop μ-loop
 loop-less c = omega (arith, c .before .before .loop-test .taken)
 
 loop-again : tie.Need-loop-again Inv-loop μ-loop
-loop-again c = (omega (arith, c .before .before .loop-test .taken), any-more _ _ (c .before .before .before .loop .inv .1) (sym (c .before .worker-lacks .ensures) ∙ c .if1 .left))
+loop-again c = sought-more (c .before .before .before .loop .inv) (c .before .before .loop-test .taken) (c .before .worker-lacks .ensures) (c .if1 .left)
 
 returns-2 : tie.Need-returns-2 Inv-loop μ-loop
-returns-2 c = sym (rw (le-antisymm (c .before .loop .inv .0) (c .loop-test .left), c .before .before .size-of .ensures .0) at (c .before .loop .inv .1))
+returns-2 c = sought-end (c .before .loop .inv) (c .loop-test .left) (c .before .before .worker-count .ensures .0)
 
 pub some-lacks-spec : {M : Type 1} → statement M
 some-lacks-spec =
@@ -50,7 +50,7 @@ some-lacks-spec =
     (tie.spec
     Inv-loop
     μ-loop
-    size-of-requires
+    worker-count-requires
     loop-holds
     worker-lacks-requires
     returns

@@ -1,47 +1,51 @@
 -- `causality::test_refusal` meets its contract. Assumes nothing.
-use mathlib.Core.Path.{sym, _∙_}
-use borrow.Author.Tests.{lt-ltb, le-ltb, eq-eqb, ne-eqb}
-use Rattle.accept.specs.Refusal.{orElse}
+use mathlib.Core.Path.{_≡_, sym, _∙_}
+use borrow.Author.Tests.{ne-eqb}
+use lib.ListN.{length}
+use Rattle.lent.specs.Lent.{orElse}
+use Rattle.lent.proofs.Lent.{or-else-zero, or-else-first, or-else-second, words-ok}
+use Rattle.log.specs.Layout.{workersOf}
+use Rattle.accept.specs.Refusal.{given}
 use Rattle.accept.proofs.Accepted.{accepted-layout}
-use Rattle.causality.specs.Lent.{wordsRefusal, cutRefusal}
-use Rattle.causality.specs.Calls.{testRefusal}
+use Rattle.causality.specs.Refusals.{cutRefusal, testRefusal}
 use borrow.Author.Needs.{needs}
 use Rattle.causality.proofs.test_refusal.Statement.{statement}
 use Rattle.causality.proofs.test_refusal.Tie as tie
 
-accept-requires : tie.Need-accept-requires
-accept-requires c κs = search needs
-
 returns : tie.Need-returns
-unfolding testRefusal orElse wordsRefusal cutRefusal
+unfolding testRefusal orElse
 returns c = rw (← c .before .accept .ensures, ne-eqb _ _ (c .if1 .taken))
 
-size-of-requires : tie.Need-size-of-requires
-size-of-requires c κs = accepted-layout _ (sym (c .before .accept .ensures) ∙ c .if1 .left)
+worker-count-requires : tie.Need-worker-count-requires
+worker-count-requires c κs = accepted-layout _ (sym (c .before .accept .ensures) ∙ c .if1 .left)
+
+-- of an accepted log the refusal is that of what is lent, then that of the cut words
+tested : (c : tie.After-or-else)
+    → let lent = c .before .before .before .before .before .before .before .args in
+    testRefusal (given (lent .log .now)) (lent .words .now) (length (lent .words .now)) (lent .others)
+    ≡ orElse (c .or-else .result) (cutRefusal (workersOf (lent .log .now)) (lent .words .now))
+unfolding testRefusal
+tested c =
+    let accepted = sym (c .before .before .before .before .accept .ensures) ∙ c .before .before .before .if1 .left in
+    rw (or-else-second _ _ accepted, ← c .before .before .worker-count .ensures .0, ← c .before .words-refusal .ensures, ← c .or-else .ensures)
 
 returns-2 : tie.Need-returns-2
-unfolding testRefusal orElse wordsRefusal cutRefusal
-returns-2 c = rw (← c .before .before .before .accept .ensures, eq-eqb _ _ (c .before .before .if1 .left), ← c .before .size-of .ensures .0, lt-ltb _ _ (c .if2 .taken))
+returns-2 c = sym (tested (c .before) ∙ or-else-first _ _ (c .if2 .taken))
 
-some-over-requires : tie.Need-some-over-requires
-some-over-requires c κs = ((sym (c .before .before .before .accept .ensures) ∙ c .before .before .if1 .left), rw (c .before .size-of .ensures .0) at (c .if2 .left))
+some-over-count-requires : tie.Need-some-over-count-requires
+some-over-count-requires c κs =
+    let lent = or-else-zero _ _ (sym (c .before .or-else .ensures) ∙ c .if2 .left) .0 in
+    let enough = words-ok _ _ (sym (c .before .before .words-refusal .ensures) ∙ lent) in
+    (sym (c .before .before .before .before .before .accept .ensures) ∙ c .before .before .before .before .if1 .left, rw (c .before .before .before .worker-count .ensures .0) at enough)
 
 returns-3 : tie.Need-returns-3
-unfolding testRefusal orElse wordsRefusal cutRefusal
-returns-3 c = rw (← c .before .before .before .before .before .accept .ensures, eq-eqb _ _ (c .before .before .before .before .if1 .left), le-ltb _ _ (rw (c .before .before .before .size-of .ensures .0) at (c .before .before .if2 .left)), ← c .before .some-over .ensures, c .if3 .taken)
+unfolding cutRefusal
+returns-3 c = sym (tested (c .before .before .before) ∙ or-else-second _ _ (c .before .before .if2 .left) ∙ rw (← c .before .some-over-count .ensures, c .if3 .taken))
 
 returns-4 : tie.Need-returns-4
-unfolding testRefusal orElse wordsRefusal cutRefusal
-returns-4 c = rw (← c .before .before .before .before .before .accept .ensures, eq-eqb _ _ (c .before .before .before .before .if1 .left), le-ltb _ _ (rw (c .before .before .before .size-of .ensures .0) at (c .before .before .if2 .left)), ← c .before .some-over .ensures, c .if3 .left)
+unfolding cutRefusal
+returns-4 c = sym (tested (c .before .before .before) ∙ or-else-second _ _ (c .before .before .if2 .left) ∙ rw (← c .before .some-over-count .ensures, c .if3 .left))
 
 pub test-refusal-spec : {M : Type 1} → statement M
 test-refusal-spec =
-    tie.close
-    (tie.spec
-    accept-requires
-    returns
-    size-of-requires
-    returns-2
-    some-over-requires
-    returns-3
-    returns-4)
+    tie.close (tie.spec (λ c κs. search needs) returns worker-count-requires (λ c κs. search needs) (λ c κs. search needs) returns-2 some-over-count-requires returns-3 returns-4)

@@ -1,22 +1,16 @@
 -- `causality::upper::raise` meets its contract: each turn of its loop moves its worker on, or the sender that it awaits. Assumes nothing.
-use mathlib.Core.Path.{sym, _∙_}
 use mathlib.Core.Logic.{inl, inr}
-use Prim.Native.Nat.{ℕ, _*_, _<_, _-_}
-use native.Mathlib.Nat.{le-trans, lt-of-lt-of-le}
+use Prim.Native.Nat.{ℕ, _<_}
+use native.Mathlib.Nat.{lt-of-lt-of-le}
 use native.Mathlib.Omega.{arith}
 use borrow.Author.Needs.{needs}
-use borrow.Author.Tests.{not-true, not-false}
-use borrow.Fn.Kinds.{In}
+use borrow.Fn.Kinds.{In, Out}
 use borrow.Fn.PlainCycle.{Measures, is, falls, and}
-use Rattle.log.specs.Limits.{maxWorkers, maxEvents}
-use Rattle.log.specs.Layout.{logOf}
+use Rattle.log.specs.Layout.{workersOf}
 use Rattle.log.specs.Model.{eventOf}
 use Rattle.accept.proofs.Accepted.{accepted-layout, well-formed}
-use Rattle.causality.specs.Cut.{Within}
-use Rattle.causality.specs.Visiting.{wordSum}
-use Rattle.causality.specs.Raising.{Passed}
-use Rattle.causality.proofs.VisitCount.{words-few}
-use Rattle.causality.proofs.Raising.{passed-more, awaited-event, awaited-falls, awaited-own, awaited-more, awaited-stuck}
+use Rattle.causality.proofs.Raising.{Moving, left, moving-room, moving-long, moving-ends, moved, stepped-on, stepped-less}
+use Rattle.causality.proofs.Raising.{awaited-send, awaited-own, awaited-less, awaited-stuck}
 use Rattle.causality.proofs.upper.raise.Reads as raise
 use Rattle.causality.proofs.upper.raise.Kinds as raise-kinds
 use Rattle.causality.proofs.upper.+raise.Lts-raise as raise-lts
@@ -27,7 +21,7 @@ use Rattle.causality.proofs.upper.+raise.Tie.{close}
 
 -- the target's stamp
 abbrev μ-raise : Measures 2 raise-kinds.ps ℕ
-μ-raise κs a = eventOf (logOf (a .0 .now)) (a .1 .1 .1 .0) (a .1 .1 .1 .1 .0) .stamp
+μ-raise κs a = eventOf (workersOf (a .0 .now)) (a .1 .1 .1 .0) (a .1 .1 .1 .1 .0) .stamp
 
 abbrev raise-at : ℕ → In 2 raise-kinds.ps
 raise-at t = and 2 raise-kinds.ps (is 2 raise-kinds.ps μ-raise t) raise.Pre
@@ -35,90 +29,145 @@ raise-at t = and 2 raise-kinds.ps (is 2 raise-kinds.ps μ-raise t) raise.Pre
 abbrev raise-below : ℕ → In 2 raise-kinds.ps
 raise-below t = and 2 raise-kinds.ps (falls 2 raise-kinds.ps _<_ μ-raise t) raise.Pre
 
+abbrev raise-claims : ℕ → raise-lts.Claims
+raise-claims t = (is-blocked-reads.Asked, is-blocked-reads.Learnt, event-at-reads.Asked, event-at-reads.Learnt, raise-below t, raise.Post)
+
 abbrev raise-Inv-loop : raise-lts.InvT-loop
-raise-Inv-loop log i event w target line₀ line = Passed (logOf log) i event line × Within line₀ line
+raise-Inv-loop log i event w target line₀ line = Moving (workersOf log) i event w target line₀ line
 
 abbrev raise-μ-loop : raise-lts.MeasureT-loop
-raise-μ-loop log i event w target line₀ line = maxWorkers * maxEvents - wordSum (logOf log) line
+raise-μ-loop log i event w target line₀ line = left (workersOf log) line
 
 module _ (t : ℕ) where
-  raise-loop-holds : raise-lts.Need-loop-holds (is-blocked-reads.Asked, is-blocked-reads.Learnt, event-at-reads.Asked, event-at-reads.Learnt, raise-below t, raise.Post) (raise-at t) raise.Post raise-Inv-loop raise-μ-loop
-  raise-loop-holds c = (c .before .before .pre .1 .5, λ v. omega arith)
+  abbrev At : (raise-lts.Claims → In 2 raise-kinds.ps → Out 2 raise-kinds.ps raise-kinds.r → raise-lts.InvT-loop → raise-lts.MeasureT-loop → Type 0) → Type 0
+  At need = need (raise-claims t) (raise-at t) raise.Post raise-Inv-loop raise-μ-loop
 
-  raise-mul-if1 : raise-lts.Need-mul-if1 (is-blocked-reads.Asked, is-blocked-reads.Learnt, event-at-reads.Asked, event-at-reads.Learnt, raise-below t, raise.Post) (raise-at t) raise.Post raise-Inv-loop raise-μ-loop
+  raise-loop-holds : At raise-lts.Need-loop-holds
+  raise-loop-holds c =
+      let pre = c .before .before .pre .1 in
+      record {
+        ok = well-formed _ (pre .0);
+        event = pre .1;
+        within = pre .2;
+        other = pre .3;
+        bound = pre .4;
+        began = pre .5;
+        passed = pre .5;
+        grown = λ v. omega arith;
+      }
+
+  raise-mul-if1 : At raise-lts.Need-mul-if1
   raise-mul-if1 c = search needs
 
-  raise-slice-read-if1 : raise-lts.Need-slice-read-if1 (is-blocked-reads.Asked, is-blocked-reads.Learnt, event-at-reads.Asked, event-at-reads.Learnt, raise-below t, raise.Post) (raise-at t) raise.Post raise-Inv-loop raise-μ-loop
-  raise-slice-read-if1 c = rw (c .before .loop .inv .0 .isCut .long) (c .before .before .before .before .pre .1 .2)
+  raise-slice-read-if1 : At raise-lts.Need-slice-read-if1
+  raise-slice-read-if1 c = moving-room (c .before .loop .inv)
 
-  raise-mul-k : raise-lts.Need-mul-k (is-blocked-reads.Asked, is-blocked-reads.Learnt, event-at-reads.Asked, event-at-reads.Learnt, raise-below t, raise.Post) (raise-at t) raise.Post raise-Inv-loop raise-μ-loop
+  raise-mul-k : At raise-lts.Need-mul-k
   raise-mul-k c = search needs
 
-  raise-slice-read-k : raise-lts.Need-slice-read-k (is-blocked-reads.Asked, is-blocked-reads.Learnt, event-at-reads.Asked, event-at-reads.Learnt, raise-below t, raise.Post) (raise-at t) raise.Post raise-Inv-loop raise-μ-loop
-  raise-slice-read-k c = rw (c .before .before .before .loop .inv .0 .isCut .long) (c .before .before .before .before .before .before .pre .1 .2)
+  raise-slice-read-k : At raise-lts.Need-slice-read-k
+  raise-slice-read-k c = moving-room (c .before .before .before .loop .inv)
 
-  raise-is-blocked-requires : raise-lts.Need-is-blocked-requires (is-blocked-reads.Asked, is-blocked-reads.Learnt, event-at-reads.Asked, event-at-reads.Learnt, raise-below t, raise.Post) (raise-at t) raise.Post raise-Inv-loop raise-μ-loop
-  raise-is-blocked-requires c κs = (c .before .before .before .before .before .before .before .pre .1 .0, c .before .before .before .before .loop .inv .0 .isCut .long, lt-of-lt-of-le (c .before .before .if1 .taken) (c .before .before .before .before .before .before .before .pre .1 .4), c .before .before .before .before .before .before .before .pre .1 .1 .0)
+  raise-is-blocked-requires : At raise-lts.Need-is-blocked-requires
+  raise-is-blocked-requires c κs =
+      let inv = c .before .before .before .before .loop .inv in
+      (c .before .before .before .before .before .before .before .pre .1 .0, inv .passed .isCut .long, lt-of-lt-of-le (c .before .before .if1 .taken) (inv .bound), inv .event .0)
 
-  raise-add-line : raise-lts.Need-add-line (is-blocked-reads.Asked, is-blocked-reads.Learnt, event-at-reads.Asked, event-at-reads.Learnt, raise-below t, raise.Post) (raise-at t) raise.Post raise-Inv-loop raise-μ-loop
+  raise-add-line : At raise-lts.Need-add-line
   raise-add-line c = search needs
 
-  raise-mul-line : raise-lts.Need-mul-line (is-blocked-reads.Asked, is-blocked-reads.Learnt, event-at-reads.Asked, event-at-reads.Learnt, raise-below t, raise.Post) (raise-at t) raise.Post raise-Inv-loop raise-μ-loop
+  raise-mul-line : At raise-lts.Need-mul-line
   raise-mul-line c = search needs
 
-  raise-slice-write-line : raise-lts.Need-slice-write-line (is-blocked-reads.Asked, is-blocked-reads.Learnt, event-at-reads.Asked, event-at-reads.Learnt, raise-below t, raise.Post) (raise-at t) raise.Post raise-Inv-loop raise-μ-loop
-  raise-slice-write-line c = rw (c .before .before .before .before .before .before .loop .inv .0 .isCut .long) (c .before .before .before .before .before .before .before .before .before .pre .1 .2)
+  raise-slice-write-line : At raise-lts.Need-slice-write-line
+  raise-slice-write-line c = moving-room (c .before .before .before .before .before .before .loop .inv)
 
-  raise-loop-less : raise-lts.Need-loop-less (is-blocked-reads.Asked, is-blocked-reads.Learnt, event-at-reads.Asked, event-at-reads.Learnt, raise-below t, raise.Post) (raise-at t) raise.Post raise-Inv-loop raise-μ-loop
-  raise-loop-less c = let more = passed-more _ _ _ _ _ (c .before .before .before .before .before .before .loop .inv .0) (c .before .before .before .before .before .before .before .before .before .pre .1 .3) (lt-of-lt-of-le (c .before .before .before .before .if1 .taken) (c .before .before .before .before .before .before .before .before .before .pre .1 .4)) (sym (c .before .is-blocked .ensures) ∙ not-true _ (c .if2 .taken)) in omega (arith, more .2, words-few _ (well-formed _ (c .before .before .before .before .before .before .before .before .before .pre .1 .0)) _ (more .0 .isCut))
+  raise-loop-less : At raise-lts.Need-loop-less
+  raise-loop-less c =
+      stepped-less (c .before .before .before .before .before .before .loop .inv) (c .before .before .before .before .if1 .taken) (c .before .is-blocked .ensures) (c .if2 .taken)
 
-  raise-loop-again : raise-lts.Need-loop-again (is-blocked-reads.Asked, is-blocked-reads.Learnt, event-at-reads.Asked, event-at-reads.Learnt, raise-below t, raise.Post) (raise-at t) raise.Post raise-Inv-loop raise-μ-loop
-  raise-loop-again c = let more = passed-more _ _ _ _ _ (c .before .before .before .before .before .before .loop .inv .0) (c .before .before .before .before .before .before .before .before .before .pre .1 .3) (lt-of-lt-of-le (c .before .before .before .before .if1 .taken) (c .before .before .before .before .before .before .before .before .before .pre .1 .4)) (sym (c .before .is-blocked .ensures) ∙ not-true _ (c .if2 .taken)) in (more .0, λ v. le-trans (c .before .before .before .before .before .before .loop .inv .1 v) (more .1 v))
+  raise-loop-again : At raise-lts.Need-loop-again
+  raise-loop-again c =
+      stepped-on (c .before .before .before .before .before .before .loop .inv) (c .before .before .before .before .if1 .taken) (c .before .is-blocked .ensures) (c .if2 .taken)
 
-  raise-add-event-at : raise-lts.Need-add-event-at (is-blocked-reads.Asked, is-blocked-reads.Learnt, event-at-reads.Asked, event-at-reads.Learnt, raise-below t, raise.Post) (raise-at t) raise.Post raise-Inv-loop raise-μ-loop
+  raise-add-event-at : At raise-lts.Need-add-event-at
   raise-add-event-at c = search needs
 
-  raise-event-at-requires : raise-lts.Need-event-at-requires (is-blocked-reads.Asked, is-blocked-reads.Learnt, event-at-reads.Asked, event-at-reads.Learnt, raise-below t, raise.Post) (raise-at t) raise.Post raise-Inv-loop raise-μ-loop
+  raise-event-at-requires : At raise-lts.Need-event-at-requires
   raise-event-at-requires c κs = accepted-layout _ (c .before .before .before .before .before .before .before .before .before .pre .1 .0)
 
-  raise-cast-sender : raise-lts.Need-cast-sender (is-blocked-reads.Asked, is-blocked-reads.Learnt, event-at-reads.Asked, event-at-reads.Learnt, raise-below t, raise.Post) (raise-at t) raise.Post raise-Inv-loop raise-μ-loop
+  raise-cast-sender : At raise-lts.Need-cast-sender
   raise-cast-sender c = search needs
 
-  raise-same-length : raise-lts.Need-same-length (is-blocked-reads.Asked, is-blocked-reads.Learnt, event-at-reads.Asked, event-at-reads.Learnt, raise-below t, raise.Post) (raise-at t) raise.Post raise-Inv-loop raise-μ-loop
-  raise-same-length c = c .before .before .before .before .before .before .before .before .before .loop .inv .0 .isCut .long ∙ sym (c .before .before .before .before .before .before .before .before .before .before .before .before .pre .1 .5 .isCut .long)
+  raise-same-length : At raise-lts.Need-same-length
+  raise-same-length c = moving-long (c .before .before .before .before .before .before .before .before .before .loop .inv)
 
-  raise-returns : raise-lts.Need-returns (is-blocked-reads.Asked, is-blocked-reads.Learnt, event-at-reads.Asked, event-at-reads.Learnt, raise-below t, raise.Post) (raise-at t) raise.Post raise-Inv-loop raise-μ-loop
-  raise-returns c = record { passed = c .before .before .before .before .before .before .before .before .before .loop .inv .0; grown = c .before .before .before .before .before .before .before .before .before .loop .inv .1; reached = inr (awaited-own _ _ _ (well-formed _ (c .before .before .before .before .before .before .before .before .before .before .before .before .pre .1 .0)) (c .before .before .before .before .before .before .before .before .before .before .before .before .pre .1 .1) _ (c .before .before .before .before .before .before .before .before .before .loop .inv .0) _ _ (c .before .before .event-at .ensures) (sym (c .before .before .before .before .is-blocked .ensures) ∙ not-false _ (c .before .before .before .if2 .left)) (c .if3 .taken)) }
+  raise-returns : At raise-lts.Need-returns
+  raise-returns c =
+      let inv = c .before .before .before .before .before .before .before .before .before .loop .inv in
+      let less = c .before .before .before .before .before .before .before .if1 .taken in
+      let said = c .before .before .before .before .is-blocked .ensures in
+      moving-ends inv (inr (awaited-own inv less said (c .before .before .before .if2 .left) (c .before .before .event-at .ensures) (c .if3 .taken)))
 
-  raise-raise-requires : raise-lts.Need-raise-requires (is-blocked-reads.Asked, is-blocked-reads.Learnt, event-at-reads.Asked, event-at-reads.Learnt, raise-below t, raise.Post) (raise-at t) raise.Post raise-Inv-loop raise-μ-loop
-  raise-raise-requires c κs = (rw (← c .before .before .before .before .before .before .before .before .before .before .before .before .before .pre .0) (awaited-falls _ _ _ (well-formed _ (c .before .before .before .before .before .before .before .before .before .before .before .before .before .pre .1 .0)) (c .before .before .before .before .before .before .before .before .before .before .before .before .before .pre .1 .1) _ (c .before .before .before .before .before .before .before .before .before .before .loop .inv .0) _ _ (c .before .before .before .event-at .ensures) (sym (c .before .before .before .before .before .is-blocked .ensures) ∙ not-false _ (c .before .before .before .before .if2 .left)) _ (c .before .before .before .before .before .before .before .before .if1 .taken) (c .before .before .before .before .before .before .before .before .before .before .before .before .before .pre .1 .4)), (c .before .before .before .before .before .before .before .before .before .before .before .before .before .pre .1 .0, c .before .before .before .before .before .before .before .before .before .before .before .before .before .pre .1 .1, awaited-event _ _ _ (well-formed _ (c .before .before .before .before .before .before .before .before .before .before .before .before .before .pre .1 .0)) (c .before .before .before .before .before .before .before .before .before .before .before .before .before .pre .1 .1) _ (c .before .before .before .before .before .before .before .before .before .before .loop .inv .0) _ _ (c .before .before .before .event-at .ensures) (sym (c .before .before .before .before .before .is-blocked .ensures) ∙ not-false _ (c .before .before .before .before .if2 .left)) .0, c .before .if3 .left, awaited-event _ _ _ (well-formed _ (c .before .before .before .before .before .before .before .before .before .before .before .before .before .pre .1 .0)) (c .before .before .before .before .before .before .before .before .before .before .before .before .before .pre .1 .1) _ (c .before .before .before .before .before .before .before .before .before .before .loop .inv .0) _ _ (c .before .before .before .event-at .ensures) (sym (c .before .before .before .before .before .is-blocked .ensures) ∙ not-false _ (c .before .before .before .before .if2 .left)) .1, c .before .before .before .before .before .before .before .before .before .before .loop .inv .0))
+  raise-raise-requires : At raise-lts.Need-raise-requires
+  raise-raise-requires c κs =
+      let pre = c .before .before .before .before .before .before .before .before .before .before .before .before .before .pre in
+      let inv = c .before .before .before .before .before .before .before .before .before .before .loop .inv in
+      let less = c .before .before .before .before .before .before .before .before .if1 .taken in
+      let send = awaited-send inv less (c .before .before .before .before .before .is-blocked .ensures) (c .before .before .before .before .if2 .left) (c .before .before .before .event-at .ensures) in
+      (rw (← pre .0) (send .0), (pre .1 .0, pre .1 .1, send .1, c .before .if3 .left, send .2, inv .passed))
 
-  raise-mul-if4 : raise-lts.Need-mul-if4 (is-blocked-reads.Asked, is-blocked-reads.Learnt, event-at-reads.Asked, event-at-reads.Learnt, raise-below t, raise.Post) (raise-at t) raise.Post raise-Inv-loop raise-μ-loop
+  raise-mul-if4 : At raise-lts.Need-mul-if4
   raise-mul-if4 c = search needs
 
-  raise-slice-read-if4 : raise-lts.Need-slice-read-if4 (is-blocked-reads.Asked, is-blocked-reads.Learnt, event-at-reads.Asked, event-at-reads.Learnt, raise-below t, raise.Post) (raise-at t) raise.Post raise-Inv-loop raise-μ-loop
-  raise-slice-read-if4 c = rw (c .before .before .before .raise .ensures .passed .isCut .long) (awaited-event _ _ _ (well-formed _ (c .before .before .before .before .before .before .before .before .before .before .before .before .before .before .before .before .before .pre .1 .0)) (c .before .before .before .before .before .before .before .before .before .before .before .before .before .before .before .before .before .pre .1 .1) _ (c .before .before .before .before .before .before .before .before .before .before .before .before .before .before .loop .inv .0) _ _ (c .before .before .before .before .before .before .before .event-at .ensures) (sym (c .before .before .before .before .before .before .before .before .before .is-blocked .ensures) ∙ not-false _ (c .before .before .before .before .before .before .before .before .if2 .left)) .0)
+  raise-slice-read-if4 : At raise-lts.Need-slice-read-if4
+  raise-slice-read-if4 c =
+      let inv = c .before .before .before .before .before .before .before .before .before .before .before .before .before .before .loop .inv in
+      let less = c .before .before .before .before .before .before .before .before .before .before .before .before .if1 .taken in
+      let said = c .before .before .before .before .before .before .before .before .before .is-blocked .ensures in
+      let stop = c .before .before .before .before .before .before .before .before .if2 .left in
+      rw (c .before .before .before .raise .ensures .passed .isCut .long)
+      (awaited-send inv less said stop (c .before .before .before .before .before .before .before .event-at .ensures) .1)
 
-  raise-same-length-2 : raise-lts.Need-same-length-2 (is-blocked-reads.Asked, is-blocked-reads.Learnt, event-at-reads.Asked, event-at-reads.Learnt, raise-below t, raise.Post) (raise-at t) raise.Post raise-Inv-loop raise-μ-loop
-  raise-same-length-2 c = c .before .before .before .before .before .raise .ensures .passed .isCut .long ∙ sym (c .before .before .before .before .before .before .before .before .before .before .before .before .before .before .before .before .before .before .before .pre .1 .5 .isCut .long)
+  raise-same-length-2 : At raise-lts.Need-same-length-2
+  raise-same-length-2 c =
+      let up = c .before .before .before .before .before .raise .ensures in
+      moving-long (moved (c .before .before .before .before .before .before .before .before .before .before .before .before .before .before .before .before .loop .inv) (up .passed) (up .grown))
 
-  raise-returns-2 : raise-lts.Need-returns-2 (is-blocked-reads.Asked, is-blocked-reads.Learnt, event-at-reads.Asked, event-at-reads.Learnt, raise-below t, raise.Post) (raise-at t) raise.Post raise-Inv-loop raise-μ-loop
-  raise-returns-2 c = record { passed = c .before .before .before .before .before .raise .ensures .passed; grown = λ v. le-trans (c .before .before .before .before .before .before .before .before .before .before .before .before .before .before .before .before .loop .inv .1 v) (c .before .before .before .before .before .raise .ensures .grown v); reached = inr (awaited-stuck _ _ _ (well-formed _ (c .before .before .before .before .before .before .before .before .before .before .before .before .before .before .before .before .before .before .before .pre .1 .0)) (c .before .before .before .before .before .before .before .before .before .before .before .before .before .before .before .before .before .before .before .pre .1 .1) _ (c .before .before .before .before .before .before .before .before .before .before .before .before .before .before .before .before .loop .inv .0) _ _ (c .before .before .before .before .before .before .before .before .before .event-at .ensures) (sym (c .before .before .before .before .before .before .before .before .before .before .before .is-blocked .ensures) ∙ not-false _ (c .before .before .before .before .before .before .before .before .before .before .if2 .left)) _ (c .before .before .before .before .before .raise .ensures) (c .if4 .taken)) }
+  raise-returns-2 : At raise-lts.Need-returns-2
+  raise-returns-2 c =
+      let inv = c .before .before .before .before .before .before .before .before .before .before .before .before .before .before .before .before .loop .inv in
+      let less = c .before .before .before .before .before .before .before .before .before .before .before .before .before .before .if1 .taken in
+      let said = c .before .before .before .before .before .before .before .before .before .before .before .is-blocked .ensures in
+      let stop = c .before .before .before .before .before .before .before .before .before .before .if2 .left in
+      let next = c .before .before .before .before .before .before .before .before .before .event-at .ensures in
+      let up = c .before .before .before .before .before .raise .ensures in
+      moving-ends (moved inv (up .passed) (up .grown)) (inr (awaited-stuck inv less said stop next up (c .if4 .taken)))
 
-  raise-loop-less-2 : raise-lts.Need-loop-less-2 (is-blocked-reads.Asked, is-blocked-reads.Learnt, event-at-reads.Asked, event-at-reads.Learnt, raise-below t, raise.Post) (raise-at t) raise.Post raise-Inv-loop raise-μ-loop
-  raise-loop-less-2 c = omega (arith, awaited-more _ _ _ (well-formed _ (c .before .before .before .before .before .before .before .before .before .before .before .before .before .before .before .before .before .before .before .pre .1 .0)) (c .before .before .before .before .before .before .before .before .before .before .before .before .before .before .before .before .before .before .before .pre .1 .1) _ (c .before .before .before .before .before .before .before .before .before .before .before .before .before .before .before .before .loop .inv .0) _ _ (c .before .before .before .before .before .before .before .before .before .event-at .ensures) (sym (c .before .before .before .before .before .before .before .before .before .before .before .is-blocked .ensures) ∙ not-false _ (c .before .before .before .before .before .before .before .before .before .before .if2 .left)) _ (c .before .before .before .before .before .raise .ensures) (c .before .before .before .before .before .before .before .if3 .left) (c .if4 .left), words-few _ (well-formed _ (c .before .before .before .before .before .before .before .before .before .before .before .before .before .before .before .before .before .before .before .pre .1 .0)) _ (c .before .before .before .before .before .raise .ensures .passed .isCut))
+  raise-loop-less-2 : At raise-lts.Need-loop-less-2
+  raise-loop-less-2 c =
+      let inv = c .before .before .before .before .before .before .before .before .before .before .before .before .before .before .before .before .loop .inv in
+      let less = c .before .before .before .before .before .before .before .before .before .before .before .before .before .before .if1 .taken in
+      let said = c .before .before .before .before .before .before .before .before .before .before .before .is-blocked .ensures in
+      let stop = c .before .before .before .before .before .before .before .before .before .before .if2 .left in
+      let next = c .before .before .before .before .before .before .before .before .before .event-at .ensures in
+      let up = c .before .before .before .before .before .raise .ensures in
+      awaited-less inv less said stop next up (c .before .before .before .before .before .before .before .if3 .left) (c .if4 .left)
 
-  raise-loop-again-2 : raise-lts.Need-loop-again-2 (is-blocked-reads.Asked, is-blocked-reads.Learnt, event-at-reads.Asked, event-at-reads.Learnt, raise-below t, raise.Post) (raise-at t) raise.Post raise-Inv-loop raise-μ-loop
-  raise-loop-again-2 c = (c .before .before .before .before .before .raise .ensures .passed, λ v. le-trans (c .before .before .before .before .before .before .before .before .before .before .before .before .before .before .before .before .loop .inv .1 v) (c .before .before .before .before .before .raise .ensures .grown v))
+  raise-loop-again-2 : At raise-lts.Need-loop-again-2
+  raise-loop-again-2 c =
+      let up = c .before .before .before .before .before .raise .ensures in
+      moved (c .before .before .before .before .before .before .before .before .before .before .before .before .before .before .before .before .loop .inv) (up .passed) (up .grown)
 
-  raise-same-length-3 : raise-lts.Need-same-length-3 (is-blocked-reads.Asked, is-blocked-reads.Learnt, event-at-reads.Asked, event-at-reads.Learnt, raise-below t, raise.Post) (raise-at t) raise.Post raise-Inv-loop raise-μ-loop
-  raise-same-length-3 c = c .before .before .loop .inv .0 .isCut .long ∙ sym (c .before .before .before .before .before .pre .1 .5 .isCut .long)
+  raise-same-length-3 : At raise-lts.Need-same-length-3
+  raise-same-length-3 c = moving-long (c .before .before .loop .inv)
 
-  raise-returns-3 : raise-lts.Need-returns-3 (is-blocked-reads.Asked, is-blocked-reads.Learnt, event-at-reads.Asked, event-at-reads.Learnt, raise-below t, raise.Post) (raise-at t) raise.Post raise-Inv-loop raise-μ-loop
-  raise-returns-3 c = record { passed = c .before .before .loop .inv .0; grown = c .before .before .loop .inv .1; reached = inl (c .if1 .left) }
+  raise-returns-3 : At raise-lts.Need-returns-3
+  raise-returns-3 c = moving-ends (c .before .before .loop .inv) (inl (c .if1 .left))
 
 pub +raise-spec : {M : Type 1} → statement M
-+raise-spec = close μ-raise λ t. raise-lts.spec (is-blocked-reads.Asked, is-blocked-reads.Learnt, event-at-reads.Asked, event-at-reads.Learnt, raise-below t, raise.Post)
++raise-spec = close μ-raise λ t. raise-lts.spec
+    (raise-claims t)
     (raise-at t)
     raise.Post
     raise-Inv-loop

@@ -8,18 +8,12 @@ use Rattle.causality.proofs.upper.raise_worker.Tie as tie
 returns : tie.Need-returns
 returns c = rw (c .if1 .taken) (raised-own _ _ _ (well-formed _ (c .before .before .before .pre .0)) (c .before .before .before .pre .1) _ (c .before .before .before .pre .3))
 
-count-of-requires : tie.Need-count-of-requires
-count-of-requires c κs = accepted-layout _ (c .before .before .before .pre .0)
-
-raise-requires : tie.Need-raise-requires
-raise-requires c κs = search needs
-
-same-length : tie.Need-same-length
-same-length c = search needs
+event-count-requires : tie.Need-event-count-requires
+event-count-requires c κs = accepted-layout _ (c .before .before .before .pre .0)
 
 returns-2 : tie.Need-returns-2
-returns-2 c = rw (← c .before .before .before .before .count-of .ensures .0) (c .before .before .raise .ensures)
+returns-2 c = rw (← c .before .before .before .before .event-count .ensures .0) (c .before .before .raise .ensures)
 
 pub raise-worker-spec : {M : Type 1} → statement M
 raise-worker-spec =
-    tie.close (tie.spec returns count-of-requires raise-requires same-length returns-2)
+    tie.close (tie.spec returns event-count-requires (λ c κs. search needs) (λ c. search needs) returns-2)
