@@ -1,4 +1,4 @@
--- Where the lowering begins: each worker at its latest checkpoint within the cut, with nothing looked at.
+-- Where the rolling back begins: each worker at its latest checkpoint within the cut, with nothing looked at.
 -- Assumes nothing.
 use mathlib.Core.Path.{_≡_, sym, _∙_}
 use mathlib.Core.Logic.{⊎-elim}
@@ -8,31 +8,33 @@ use native.Mathlib.Omega.{arith}
 use lib.ListN.{length, set, length-set, List·getD-eq-default}
 use lib.Seq.{getD-set-same, getD-set-other}
 use Rattle.ranges.proofs.Order.{lt-or-le, at-or-other}
-use Rattle.log.specs.Model.{Log, size, checkpoints, checkpointOf}
+use Rattle.log.specs.Model.{Workers, workerCount, checkpointCount, checkpointOf}
 use Rattle.accept.specs.WellFormed.{WellFormed}
-use Rattle.causality.specs.Cut.{at, IsCut}
-use Rattle.restore.specs.Words.{planCut, planStart, cutsIn}
-use Rattle.restore.specs.Lowering.{planNumber, numberBelow, placed, Lowering}
-use Rattle.restore.proofs.Starts.{starts-at}
+use Rattle.lent.specs.Lent.{at}
+use Rattle.causality.specs.Cut.{IsCut}
+use Rattle.restore.specs.Words.{cutIn, startIn, cutsIn}
+use Rattle.restore.specs.Inner.Rollback.{numberIn, numberBelow, placed, RollingBack}
+use Rattle.restore.proofs.Choosable.{may-recorded}
+use Rattle.restore.proofs.Startable.{starts-at}
 use Rattle.restore.proofs.Held.{cuts-at}
 use Rattle.restore.proofs.Placed.{IsBelow, number-below, placed-length, placed-cut, placed-start, placed-start-other, placed-number, placed-number-other}
 use Rattle.restore.proofs.Settling.{below-most}
 
 -- the latest checkpoint of worker w within the cut of the words
-abbrev pub latestOf : Log → List ℕ → ℕ → ℕ
-latestOf log words w = numberBelow log w (planCut words w + 1) (checkpoints log w)
+abbrev pub latestOf : Workers → List ℕ → ℕ → ℕ
+latestOf log words w = numberBelow log w (cutIn words w + 1) (checkpointCount log w)
 
 -- the words when the workers below n have begun
-pub record Begun (log : Log) (words₀ words looked : List ℕ) (n : ℕ) : Type 0 where
-  pub wide : length words ≡ 3 * size log
-  pub long : length looked ≡ size log
-  pub cuts : (v : ℕ) → planCut words v ≡ planCut words₀ v
-  pub number : (v : ℕ) → v < n → planNumber words v ≡ latestOf log words₀ v
-  pub start : (v : ℕ) → v < n → planStart words v ≡ checkpointOf log v (latestOf log words₀ v) .index
-  pub looks : (v : ℕ) → v < n → at looked v ≡ planCut words₀ v
+pub record Begun (log : Workers) (words₀ words looked : List ℕ) (n : ℕ) : Type 0 where
+  pub wide : length words ≡ 3 * workerCount log
+  pub long : length looked ≡ workerCount log
+  pub cuts : (v : ℕ) → cutIn words v ≡ cutIn words₀ v
+  pub number : (v : ℕ) → v < n → numberIn words v ≡ latestOf log words₀ v
+  pub start : (v : ℕ) → v < n → startIn words v ≡ checkpointOf log v (latestOf log words₀ v) .index
+  pub looks : (v : ℕ) → v < n → at looked v ≡ cutIn words₀ v
 
-module _ (log : Log) (words₀ : List ℕ) where
-  pub begun-none : (looked : List ℕ) → length words₀ ≡ 3 * size log → length looked ≡ size log → Begun log words₀ words₀ looked 0
+module _ (log : Workers) (words₀ : List ℕ) where
+  pub begun-none : (looked : List ℕ) → length words₀ ≡ 3 * workerCount log → length looked ≡ workerCount log → Begun log words₀ words₀ looked 0
   begun-none looked wide long =
       record {
         wide = wide;
@@ -43,8 +45,8 @@ module _ (log : Log) (words₀ : List ℕ) where
         looks = λ v h. let no : ⊥ = omega arith in absurd no;
       }
 
-  pub begun-more : (words looked : List ℕ) (w : ℕ) → w < size log → Begun log words₀ words looked w
-      → Begun log words₀ (placed log words w (latestOf log words₀ w)) (set looked w (planCut words₀ w)) (w + 1)
+  pub begun-more : (words looked : List ℕ) (w : ℕ) → w < workerCount log → Begun log words₀ words looked w
+      → Begun log words₀ (placed log words w (latestOf log words₀ w)) (set looked w (cutIn words₀ w)) (w + 1)
   begun-more words looked w here b =
       let wide : 3 * w + 3 ≤ length words = omega (arith, b .wide) in
       let short : w < length looked = omega (arith, b .long) in
@@ -53,54 +55,54 @@ module _ (log : Log) (words₀ : List ℕ) where
         wide = placed-length log words w c ∙ b .wide;
         long = simp length-set (b .long);
         cuts = λ v. placed-cut log words w c v ∙ b .cuts v;
-        number = at-or-other w (λ v. v < w + 1 → planNumber (placed log words w c) v ≡ latestOf log words₀ v)
+        number = at-or-other w (λ v. v < w + 1 → numberIn (placed log words w c) v ≡ latestOf log words₀ v)
             (λ h. placed-number log words w c wide)
             (λ v n h. placed-number-other log words w c v n ∙ b .number v (below v n h));
-        start = at-or-other w (λ v. v < w + 1 → planStart (placed log words w c) v ≡ checkpointOf log v (latestOf log words₀ v) .index)
+        start = at-or-other w (λ v. v < w + 1 → startIn (placed log words w c) v ≡ checkpointOf log v (latestOf log words₀ v) .index)
             (λ h. placed-start log words w c wide)
             (λ v n h. placed-start-other log words w c v n ∙ b .start v (below v n h));
-        looks = at-or-other w (λ v. v < w + 1 → at (set looked w (planCut words₀ w)) v ≡ planCut words₀ v)
-            (λ h. getD-set-same looked w (planCut words₀ w) 0 short)
-            (λ v n h. getD-set-other looked w v (planCut words₀ w) 0 n ∙ b .looks v (below v n h));
+        looks = at-or-other w (λ v. v < w + 1 → at (set looked w (cutIn words₀ w)) v ≡ cutIn words₀ v)
+            (λ h. getD-set-same looked w (cutIn words₀ w) 0 short)
+            (λ v n h. getD-set-other looked w v (cutIn words₀ w) 0 n ∙ b .looks v (below v n h));
       }
     where
       below : (v : ℕ) → (v ≡ w → ⊥) → v < w + 1 → v < w
       below v n h = omega (arith, n)
 
-module _ (log : Log) (ok : WellFormed log) (words₀ words looked : List ℕ) (isCut : IsCut log (cutsIn words₀ (size log))) (b : Begun log words₀ words looked (size log)) where
+module _ (log : Workers) (ok : WellFormed log) (words₀ words looked : List ℕ) (isCut : IsCut log (cutsIn log words₀)) (b : Begun log words₀ words looked (workerCount log)) where
   abbrev cut : List ℕ
-  cut = cutsIn words₀ (size log)
+  cut = cutsIn log words₀
 
-  latest : (w : ℕ) → IsBelow log w (planCut words₀ w + 1) (checkpoints log w) (latestOf log words₀ w)
-  latest w = number-below log w (planCut words₀ w + 1) (checkpoints log w) (omega arith)
+  latest : (w : ℕ) → IsBelow log w (cutIn words₀ w + 1) (checkpointCount log w) (latestOf log words₀ w)
+  latest w = number-below log w (cutIn words₀ w + 1) (checkpointCount log w) (omega arith)
 
-  past : (w : ℕ) → size log ≤ w → at looked w ≡ 0
+  past : (w : ℕ) → workerCount log ≤ w → at looked w ≡ 0
   past w h = List·getD-eq-default looked 0 (rw (b .long) h)
 
-  looked-all : (w : ℕ) → w < size log → at looked w ≡ at cut w
-  looked-all w h = b .looks w h ∙ sym (cuts-at words₀ (size log) w h)
+  looked-all : (w : ℕ) → w < workerCount log → at looked w ≡ at cut w
+  looked-all w h = b .looks w h ∙ sym (cuts-at log words₀ w h)
 
-  -- when all have begun, what holds of the words while the starts are lowered holds of them
-  pub begun-all : Lowering log cut words looked
+  -- when all have begun, what holds of the words while workers are rolled back holds of them
+  pub begun-all : RollingBack log cut words looked
   begun-all =
       record {
         wide = b .wide;
         long = b .long;
-        cuts = λ w h. b .cuts w ∙ sym (cuts-at words₀ (size log) w h);
-        may = λ w h. rw (b .number w h) (latest w .low);
+        cuts = λ w h. b .cuts w ∙ sym (cuts-at log words₀ w h);
+        may = λ w h. rw (b .number w h) (latest w .may);
         index = λ w h. rw (b .number w h, b .start w h);
-        last = λ w d h l may. rw (b .start w h) (omega (arith, latest w .index, latest w .later d (rw (b .number w h) at l) may));
-        within = λ w h. rw (b .start w h) (omega (arith, latest w .index, cuts-at words₀ (size log) w h));
-        looks = λ w. ⊎-elim (λ l. omega (arith, looked-all w l)) (λ l. omega (arith, past w l)) (lt-or-le w (size log));
+        last = λ w d h l may. rw (b .start w h) (omega (arith, latest w .index, latest w .later d (rw (b .number w h) at l) (may-recorded log w d may) may));
+        within = λ w h. rw (b .start w h) (omega (arith, latest w .index, cuts-at log words₀ w h));
+        looks = λ w. ⊎-elim (λ l. omega (arith, looked-all w l)) (λ l. omega (arith, past w l)) (lt-or-le w (workerCount log));
         kept = λ w k seen inside unlogged.
             let no : ⊥ =
             ⊎-elim
             (λ l. let m : ⊥ = omega (arith, looked-all w l) in m)
             (λ l. let z : at cut w ≡ 0 = List·getD-eq-default cut 0 (rw (isCut .long) l) in let m : ⊥ = omega arith in m)
-            (lt-or-le w (size log)) in
+            (lt-or-le w (workerCount log)) in
             absurd no;
         above = λ other is startable w h.
             rw (b .start w h)
-            (below-most log ok cut w (planCut words₀ w + 1) (latestOf log words₀ w) h (latest w) other is
-            (omega (arith, starts-at other w, is .within w, cuts-at words₀ (size log) w h)));
+            (below-most log ok cut w (cutIn words₀ w + 1) (latestOf log words₀ w) h (latest w) other is
+            (omega (arith, starts-at other w, is .within w, cuts-at log words₀ w h)));
       }

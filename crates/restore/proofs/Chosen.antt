@@ -6,7 +6,7 @@ use mathlib.Core.Logic.{⊎-elim}
 use mathlib.Core.List.{List}
 use Prim.Native.Nat.{ℕ, _+_, _<_, _≤_}
 use native.Mathlib.Omega.{arith}
-use borrow.Author.Tests.{leb-true, eqb-true, eq-eqb}
+use borrow.Author.Tests.{eqb-true, eq-eqb}
 use lib.Dec.{eqb}
 use lib.ListN.{length, getD, length-map, List·getD-eq-default}
 use Rattle.ranges.specs.Fold.{tabulate}
@@ -15,36 +15,33 @@ use Rattle.ranges.proofs.Bools.{and-true-left, and-true-right}
 use Rattle.ranges.proofs.First.{last}
 use Rattle.ranges.proofs.Tabulate.{length-tabulate, getD-tabulate, getD-tabulate-past}
 use Rattle.log.specs.declared.Checkpoint.{Checkpoint}
-use Rattle.log.specs.Model.{Log, size, checkpoints, checkpointOf, initial}
-use Rattle.causality.specs.Cut.{at, Within}
+use Rattle.log.specs.Model.{Workers, workerCount, checkpointCount, checkpointOf, initial}
+use Rattle.lent.specs.Lent.{at}
+use Rattle.causality.specs.Cut.{Within}
 use Rattle.restore.specs.Choice.{mayChoose, IsChoice, startsOf, Startable}
 use Rattle.restore.specs.Plan.{standsAt, identifierOf, identifierAt, planAt}
-use Rattle.restore.proofs.Starts.{starts-at, same-starts}
-
--- a checkpoint that may be chosen is the initial state or a recorded one
-pub may-below : (log : Log) (w c : ℕ) → mayChoose log w c ≡ true → c < checkpoints log w + 1
-unfolding mayChoose
-may-below log w c e = let l = leb-true c (checkpoints log w) e in omega arith
+use Rattle.restore.proofs.Choosable.{may-below}
+use Rattle.restore.proofs.Startable.{starts-at, same-starts}
 
 -- x is the index of a checkpoint of worker w that may be chosen
-abbrev pub IndexOffered : Log → ℕ → ℕ → Type 0
+abbrev pub IndexOffered : Workers → ℕ → ℕ → Type 0
 IndexOffered log w x = (c : ℕ) × (mayChoose log w c ≡ true) × (checkpointOf log w c .index ≡ x)
 
 -- starts that are startable and the starts of a choice
-pub record AreStarts (log : Log) (cut starts : List ℕ) : Type 0 where
-  pub long : length starts ≡ size log
-  pub offered : (w : ℕ) → w < size log → IndexOffered log w (at starts w)
+pub record AreStarts (log : Workers) (cut starts : List ℕ) : Type 0 where
+  pub long : length starts ≡ workerCount log
+  pub offered : (w : ℕ) → w < workerCount log → IndexOffered log w (at starts w)
   pub within : Within starts cut
   pub startable : Startable log cut starts
 
 -- p is checkpoint c of worker w, the last one with this index
-pub record IsLastAt (log : Log) (w : ℕ) (p : Checkpoint) (c : ℕ) : Type 0 where
+pub record IsLastAt (log : Workers) (w : ℕ) (p : Checkpoint) (c : ℕ) : Type 0 where
   pub may : mayChoose log w c ≡ true
   pub same : checkpointOf log w c ≡ p
   pub after : (d : ℕ) → mayChoose log w d ≡ true → checkpointOf log w d .index ≡ p .index → d ≤ c
 
 -- the starts of a startable choice
-pub choice-starts : (log : Log) (cut : List ℕ) (choice : List Checkpoint) → IsChoice log cut choice → Startable log cut (startsOf choice) → AreStarts log cut (startsOf choice)
+pub choice-starts : (log : Workers) (cut : List ℕ) (choice : List Checkpoint) → IsChoice log cut choice → Startable log cut (startsOf choice) → AreStarts log cut (startsOf choice)
 choice-starts log cut choice is startable =
     record {
       long = length-map choice (λ (p : Checkpoint). p .index) ∙ is .long;
@@ -54,12 +51,12 @@ choice-starts log cut choice is startable =
     }
 
 -- "Of recorded checkpoints with that index the last one listed gives the identifier; if none is recorded, 0"
-pub identifier-last : (log : Log) (w x : ℕ) → IndexOffered log w x → (c : ℕ) × IsLastAt log w (record { index = x; identifier = identifierAt log w x }) c
+pub identifier-last : (log : Workers) (w x : ℕ) → IndexOffered log w x → (c : ℕ) × IsLastAt log w (record { index = x; identifier = identifierAt log w x }) c
 unfolding identifierAt identifierOf standsAt
 identifier-last log w x (k, may, index) =
     let stands : (c : ℕ) → mayChoose log w c ≡ true → checkpointOf log w c .index ≡ x → standsAt log w x c ≡ true =
     λ c m i. rw (m, eq-eqb (checkpointOf log w c .index) x i) in
-    let found = last (standsAt log w x) (identifierOf log w) (checkpoints log w + 1) k (may-below log w k may) (stands k may index) in
+    let found = last (standsAt log w x) (identifierOf log w) (checkpointCount log w + 1) k (may-below log w k may) (stands k may index) in
     let c = found .0 in
     let first = mayChoose log w c in
     let second = eqb (checkpointOf log w c .index) x in
@@ -73,34 +70,34 @@ identifier-last log w x (k, may, index) =
     )
 
 -- the same of the plan's checkpoint
-pub plan-last : (log : Log) (starts : List ℕ) (w : ℕ) → IndexOffered log w (at starts w) → (c : ℕ) × IsLastAt log w (planAt log starts w) c
+pub plan-last : (log : Workers) (starts : List ℕ) (w : ℕ) → IndexOffered log w (at starts w) → (c : ℕ) × IsLastAt log w (planAt log starts w) c
 unfolding planAt
 plan-last log starts w = identifier-last log w (at starts w)
 
 -- the choice that has these starts
-unfoldable pub chosen : Log → List ℕ → List Checkpoint
-chosen log starts = tabulate (planAt log starts) (size log)
+unfoldable pub chosen : Workers → List ℕ → List Checkpoint
+chosen log starts = tabulate (planAt log starts) (workerCount log)
 
-module _ (log : Log) (starts : List ℕ) where
+module _ (log : Workers) (starts : List ℕ) where
   -- it gives a worker the checkpoint that the plan names
-  pub chosen-at : (w : ℕ) → w < size log → getD (chosen log starts) w initial ≡ planAt log starts w
+  pub chosen-at : (w : ℕ) → w < workerCount log → getD (chosen log starts) w initial ≡ planAt log starts w
   unfolding chosen
-  chosen-at w h = getD-tabulate (planAt log starts) (size log) w initial h
+  chosen-at w h = getD-tabulate (planAt log starts) (workerCount log) w initial h
 
-  chosen-index : length starts ≡ size log → (w : ℕ) → getD (chosen log starts) w initial .index ≡ at starts w
+  chosen-index : length starts ≡ workerCount log → (w : ℕ) → getD (chosen log starts) w initial .index ≡ at starts w
   unfolding chosen planAt
   chosen-index long w =
       ⊎-elim
       (λ l. ap (λ (p : Checkpoint). p .index) (chosen-at w l))
-      (λ l. ap (λ (p : Checkpoint). p .index) (getD-tabulate-past (planAt log starts) (size log) w initial l) ∙ sym (List·getD-eq-default starts 0 (rw long l)))
-      (lt-or-le w (size log))
+      (λ l. ap (λ (p : Checkpoint). p .index) (getD-tabulate-past (planAt log starts) (workerCount log) w initial l) ∙ sym (List·getD-eq-default starts 0 (rw long l)))
+      (lt-or-le w (workerCount log))
 
-  chosen-long : length (chosen log starts) ≡ size log
+  chosen-long : length (chosen log starts) ≡ workerCount log
   unfolding chosen
-  chosen-long = length-tabulate (planAt log starts) (size log)
+  chosen-long = length-tabulate (planAt log starts) (workerCount log)
 
   -- its starts are these
-  pub chosen-starts : length starts ≡ size log → startsOf (chosen log starts) ≡ starts
+  pub chosen-starts : length starts ≡ workerCount log → startsOf (chosen log starts) ≡ starts
   chosen-starts long =
       let same : (w : ℕ) → at (startsOf (chosen log starts)) w ≡ at starts w = λ w. starts-at (chosen log starts) w ∙ chosen-index long w in
       same-starts (startsOf (chosen log starts)) starts (length-map (chosen log starts) (λ (p : Checkpoint). p .index) ∙ chosen-long ∙ sym long)

@@ -6,39 +6,35 @@ use Prim.Native.Nat.{ℕ, _+_, _*_, _/_, _%_, _<_}
 use native.Mathlib.Omega.{arith}
 use lib.ListN.{length, set, length-set}
 use lib.Seq.{getD-set-same, getD-set-other}
+use Rattle.ranges.specs.Fold.{tabulate}
 use Rattle.ranges.proofs.Order.{at-or-other}
 use Rattle.ranges.proofs.Tabulate.{length-tabulate, getD-tabulate, tabulate-list}
-use Rattle.log.specs.Layout.{logOf}
-use Rattle.log.specs.Model.{Log, size}
-use Rattle.accept.specs.Refusal.{refusal}
+use Rattle.log.specs.Model.{Workers, workerCount}
+use Rattle.log.specs.Layout.{workersOf}
+use Rattle.accept.specs.Refusal.{logRefusal}
 use Rattle.accept.specs.WellFormed.{WellFormed}
 use Rattle.accept.proofs.Accepted.{well-formed}
-use Rattle.causality.specs.Cut.{at, IsCut}
+use Rattle.causality.specs.Happened.{IsEvent}
+use Rattle.causality.specs.Figure2.{lowerCut}
+use Rattle.causality.proofs.LowerCut.{lower-is}
+use Rattle.lent.specs.Lent.{at}
+use Rattle.causality.specs.Cut.{IsCut}
 use Rattle.restore.specs.Plan.{planStarts, planWord, planWords}
-use Rattle.restore.specs.Words.{planCut, planStart, cutsIn, startsIn}
-use Rattle.restore.specs.Held.{IsHeld}
+use Rattle.restore.specs.Words.{cutIn, startIn, cutsIn, startsIn}
+use Rattle.restore.specs.Inner.Held.{IsHeld}
 use Rattle.restore.proofs.Latest.{plan-starts-latest}
-
--- words whose first word of each worker is the cut's give the cut
-pub cuts-are : (words cut : List ℕ) (n : ℕ) → length cut ≡ n → ((w : ℕ) → w < n → planCut words w ≡ at cut w) → cutsIn words n ≡ cut
-unfolding cutsIn
-cuts-are words cut n long same = sym (tabulate-list (planCut words) n 0 cut long (λ w h. sym (same w h)))
-
--- the same of the starts
-pub starts-are : (words starts : List ℕ) (n : ℕ) → length starts ≡ n → ((w : ℕ) → w < n → planStart words w ≡ at starts w) → startsIn words n ≡ starts
-unfolding startsIn
-starts-are words starts n long same = sym (tabulate-list (planStart words) n 0 starts long (λ w h. sym (same w h)))
+use Rattle.restore.proofs.Held.{cuts-are, starts-are}
 
 -- the words when the cut of the workers below n has been spread
 pub record Spread (cut words : List ℕ) (n : ℕ) : Type 0 where
   pub wide : length words ≡ 3 * length cut
-  pub cuts : (w : ℕ) → w < n → planCut words w ≡ at cut w
+  pub cuts : (w : ℕ) → w < n → cutIn words w ≡ at cut w
 
 pub spread-none : (cut words : List ℕ) → length words ≡ 3 * length cut → Spread cut words 0
 spread-none cut words wide = record { wide = wide; cuts = λ w h. let no : ⊥ = omega arith in absurd no }
 
 pub spread-more : (cut words : List ℕ) (w : ℕ) → w < length cut → Spread cut words w → Spread cut (set words (3 * w) (at cut w)) (w + 1)
-unfolding planCut
+unfolding cutIn
 spread-more cut words w here s =
     record {
       wide = simp length-set (s .wide);
@@ -47,46 +43,49 @@ spread-more cut words w here s =
           (λ v n h. getD-set-other words (3 * w) (3 * v) (at cut w) 0 (λ e. n (omega (arith, e))) ∙ s .cuts v (omega (arith, n)));
     }
 
-pub spread-all : (cut words : List ℕ) → Spread cut words (length cut) → cutsIn words (length cut) ≡ cut
-spread-all cut words s = cuts-are words cut (length cut) refl (s .cuts)
+pub spread-all : (cut words : List ℕ) → Spread cut words (length cut) → tabulate (cutIn words) (length cut) ≡ cut
+spread-all cut words s = sym (tabulate-list (cutIn words) (length cut) 0 cut refl (λ w h. sym (s .cuts w h)))
 
-module _ (log : Log) (cut : List ℕ) where
-  pub plan-long : length (planWords log cut) ≡ 3 * size log
+module _ (log : Workers) (cut : List ℕ) where
+  pub plan-long : length (planWords log cut) ≡ 3 * workerCount log
   unfolding planWords
-  plan-long = length-tabulate (planWord log cut (planStarts log cut)) (3 * size log)
+  plan-long = length-tabulate (planWord log cut (planStarts log cut)) (3 * workerCount log)
 
-  pub plan-cut : (w : ℕ) → w < size log → planCut (planWords log cut) w ≡ at cut w
-  unfolding planWords planCut planWord
+  pub plan-cut : (w : ℕ) → w < workerCount log → cutIn (planWords log cut) w ≡ at cut w
+  unfolding planWords cutIn planWord
   plan-cut w h =
       let r : (3 * w) % 3 ≡ 0 = omega arith in
       let q : (3 * w) / 3 ≡ w = omega arith in
-      getD-tabulate (planWord log cut (planStarts log cut)) (3 * size log) (3 * w) 0 (omega arith) ∙ rw (r, q)
+      getD-tabulate (planWord log cut (planStarts log cut)) (3 * workerCount log) (3 * w) 0 (omega arith) ∙ rw (r, q)
 
-  pub plan-start : (w : ℕ) → w < size log → planStart (planWords log cut) w ≡ at (planStarts log cut) w
-  unfolding planWords planStart planWord
+  pub plan-start : (w : ℕ) → w < workerCount log → startIn (planWords log cut) w ≡ at (planStarts log cut) w
+  unfolding planWords startIn planWord
   plan-start w h =
       let r : (3 * w + 1) % 3 ≡ 1 = omega arith in
       let q : (3 * w + 1) / 3 ≡ w = omega arith in
-      getD-tabulate (planWord log cut (planStarts log cut)) (3 * size log) (3 * w + 1) 0 (omega arith) ∙ rw (r, q)
+      getD-tabulate (planWord log cut (planStarts log cut)) (3 * workerCount log) (3 * w + 1) 0 (omega arith) ∙ rw (r, q)
 
   -- the plan words give the cut ..
-  pub plan-cuts : IsCut log cut → cutsIn (planWords log cut) (size log) ≡ cut
-  plan-cuts isCut = cuts-are (planWords log cut) cut (size log) (isCut .long) plan-cut
+  pub plan-cuts : IsCut log cut → cutsIn log (planWords log cut) ≡ cut
+  plan-cuts isCut = cuts-are log (planWords log cut) cut (isCut .long) plan-cut
 
   -- .. and the starts
-  pub plan-starts-in : WellFormed log → IsCut log cut → startsIn (planWords log cut) (size log) ≡ planStarts log cut
+  pub plan-starts-in : WellFormed log → IsCut log cut → startsIn log (planWords log cut) ≡ planStarts log cut
   plan-starts-in ok isCut =
-      starts-are (planWords log cut) (planStarts log cut) (size log) (plan-starts-latest log ok cut isCut .are .long) plan-start
+      starts-are log (planWords log cut) (planStarts log cut) (plan-starts-latest log ok cut isCut .are .long) plan-start
 
--- the plan words of an accepted log are held
-pub plan-held : (s cut : List ℕ) → refusal s ≡ 0 → IsCut (logOf s) cut → IsHeld s (planWords (logOf s) cut)
-plan-held s cut accepted isCut =
-    let ok = well-formed s accepted in
-    let c = plan-cuts (logOf s) cut isCut in
-    let p = plan-starts-in (logOf s) cut ok isCut in
-    record {
-      accepted = accepted;
-      long = plan-long (logOf s) cut;
-      isCut = rw c isCut;
-      within = rw (c, p) (plan-starts-latest (logOf s) ok cut isCut .are .within);
-    }
+-- the plan words are held
+pub plan-held : (log : Workers) → WellFormed log → (cut : List ℕ) → IsCut log cut → IsHeld log (planWords log cut)
+plan-held log ok cut isCut =
+    let c = plan-cuts log cut isCut in
+    let p = plan-starts-in log cut ok isCut in
+    record { long = plan-long log cut; isCut = rw c isCut; within = rw (c, p) (plan-starts-latest log ok cut isCut .are .within) }
+
+module _ (s : List ℕ) (i e : ℕ) (accepted : logRefusal s ≡ 0) (event : IsEvent (workersOf s) i e) where
+  -- the lower cut of an event of an accepted log is a cut
+  pub lower-isCut : IsCut (workersOf s) (lowerCut (workersOf s) i e)
+  lower-isCut = lower-is (workersOf s) (well-formed s accepted) i e event .consistent .isCut
+
+  -- the words of its plan are held over the log
+  pub lower-held : (words cut : List ℕ) → words ≡ planWords (workersOf s) cut → cut ≡ lowerCut (workersOf s) i e → (logRefusal s ≡ 0) × IsHeld (workersOf s) words
+  lower-held words cut plan lower = (accepted, rw (plan, lower) (plan-held (workersOf s) (well-formed s accepted) (lowerCut (workersOf s) i e) lower-isCut))

@@ -7,20 +7,21 @@ use Prim.Native.Nat.{ℕ, _+_, _<_, _≤_}
 use lib.Dec.{leb}
 use lib.ListN.{length, getD}
 use Rattle.log.specs.declared.Checkpoint.{Checkpoint}
-use Rattle.log.specs.Model.{Log, size, eventOf, checkpoints, checkpointOf, initial, isUnlogged}
-use Rattle.causality.specs.Cut.{at, Within}
+use Rattle.log.specs.Model.{Workers, workerCount, eventOf, checkpointCount, checkpointOf, initial, isUnlogged}
+use Rattle.lent.specs.Lent.{at}
+use Rattle.causality.specs.Cut.{Within}
 
 -- the checkpoints that may be chosen: the initial state, number 0, and each recorded one
-unfoldable pub mayChoose : Log → ℕ → ℕ → Bool
-mayChoose log w c = leb c (checkpoints log w)
+unfoldable pub mayChoose : Workers → ℕ → ℕ → Bool
+mayChoose log w c = leb c (checkpointCount log w)
 
-abbrev pub Offered : Log → ℕ → Checkpoint → Type 0
+abbrev pub Offered : Workers → ℕ → Checkpoint → Type 0
 Offered log w p = (c : ℕ) × (mayChoose log w c ≡ true) × (checkpointOf log w c ≡ p)
 
 -- "A choice gives each worker a checkpoint with index at most its cut"
-pub record IsChoice (log : Log) (cut : List ℕ) (choice : List Checkpoint) : Type 0 where
-  pub long : length choice ≡ size log
-  pub offered : (w : ℕ) → w < size log → Offered log w (getD choice w initial)
+pub record IsChoice (log : Workers) (cut : List ℕ) (choice : List Checkpoint) : Type 0 where
+  pub long : length choice ≡ workerCount log
+  pub offered : (w : ℕ) → w < workerCount log → Offered log w (getD choice w initial)
   pub within : (w : ℕ) → getD choice w initial .index ≤ at cut w
 
 -- the start index of each worker
@@ -28,12 +29,12 @@ abbrev pub startsOf : List Checkpoint → List ℕ
 startsOf choice = map (λ (p : Checkpoint). p .index) choice
 
 -- "startable when each kind 2 receive after its worker's start and within the cut has a send index above the sender's start"
-abbrev pub Startable : Log → List ℕ → List ℕ → Type 0
+abbrev pub Startable : Workers → List ℕ → List ℕ → Type 0
 Startable log cut starts =
     (w k : ℕ) → at starts w ≤ k → k < at cut w → isUnlogged (eventOf log w (k + 1)) ≡ true → at starts (eventOf log w (k + 1) .peer) < eventOf log w (k + 1) .send
 
 -- "the startable choice with every start index the largest"
-pub record IsLatest (log : Log) (cut : List ℕ) (choice : List Checkpoint) : Type 0 where
+pub record IsLatest (log : Workers) (cut : List ℕ) (choice : List Checkpoint) : Type 0 where
   pub isChoice : IsChoice log cut choice
   pub startable : Startable log cut (startsOf choice)
   pub latest : (other : List Checkpoint) → IsChoice log cut other → Startable log cut (startsOf other) → Within (startsOf other) (startsOf choice)

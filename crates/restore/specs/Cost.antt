@@ -6,30 +6,30 @@ use Prim.Native.Nat.{ℕ, _+_, _-_}
 use lib.Dec.{leb}
 use lib.ListN.{getD}
 use Rattle.ranges.specs.Fold.{sumBelow}
-use Rattle.log.specs.Model.{Log, size, roleOf, eventOf}
-use Rattle.causality.specs.Cut.{at}
+use Rattle.log.specs.Model.{Workers, workerCount, roleOf, eventOf}
+use Rattle.lent.specs.Lent.{at}
 
 unfoldable pub replayed : List ℕ → List ℕ → ℕ → ℕ
 replayed cut starts w = at cut w - at starts w
 
 -- "Events is the sum of cut minus start"
-unfoldable pub eventsOf : Log → List ℕ → List ℕ → ℕ
-eventsOf log cut starts = sumBelow (replayed cut starts) (size log)
+unfoldable pub eventsOf : Workers → List ℕ → List ℕ → ℕ
+eventsOf log cut starts = sumBelow (replayed cut starts) (workerCount log)
 
 -- units for a role and a kind
 abbrev pub Table : Type 0
 Table = ℕ → ℕ → ℕ
 
 -- event k + 1 of worker w counts where it is after the start
-unfoldable pub eventUnits : Table → Log → List ℕ → ℕ → ℕ → ℕ
+unfoldable pub eventUnits : Table → Workers → List ℕ → ℕ → ℕ → ℕ
 eventUnits table log starts w k = cond (leb (at starts w) k) (table (roleOf log w) (eventOf log w (k + 1) .kind)) 0
 
-unfoldable pub workerUnits : Table → Log → List ℕ → List ℕ → ℕ → ℕ
+unfoldable pub workerUnits : Table → Workers → List ℕ → List ℕ → ℕ → ℕ
 workerUnits table log cut starts w = sumBelow (eventUnits table log starts w) (at cut w)
 
 -- "Units is the sum over replayed events of this table"
-unfoldable pub unitsOf : Table → Log → List ℕ → List ℕ → ℕ
-unitsOf table log cut starts = sumBelow (workerUnits table log cut starts) (size log)
+unfoldable pub unitsOf : Table → Workers → List ℕ → List ℕ → ℕ
+unitsOf table log cut starts = sumBelow (workerUnits table log cut starts) (workerCount log)
 
 -- "role 0 intake 2, 3, 5; role 1 cleaner 2, 4, 6; role 2 gap filler 3, 8, 9; role 3 summariser 2, 5, 7"
 abbrev pub rows : List (List ℕ)

@@ -4,5 +4,4 @@ pub mod Words
 pub mod Cost
 pub mod Covering
 pub mod Calls
-pub mod Held
-pub mod Lowering
+pub mod Inner

@@ -1,4 +1,4 @@
--- The plan of document 01, computed: from the cut, each start is lowered to the latest checkpoint that loses no send, until nothing moves.
+-- The plan of document 01, computed: from the cut, each worker is rolled back to the latest checkpoint that loses no send, until nothing moves.
 -- Assumes nothing.
 use mathlib.Core.Bool.{Bool, not, cond, _&&_}
 use mathlib.Core.List.{List}
@@ -6,60 +6,60 @@ use Prim.Native.Nat.{ℕ, _+_, _*_, _/_, _%_}
 use lib.Dec.{eqb, leb}
 use Rattle.ranges.specs.Fold.{anyBelow, maxBelow, sumBelow, lastBelow, tabulate, sweep}
 use Rattle.log.specs.declared.Checkpoint.{Checkpoint}
-use Rattle.log.specs.Model.{Log, size, eventOf, checkpoints, checkpointOf, isUnlogged}
-use Rattle.causality.specs.Cut.{at}
+use Rattle.log.specs.Model.{Workers, workerCount, eventOf, checkpointCount, checkpointOf, isUnlogged}
+use Rattle.lent.specs.Lent.{at}
 use Rattle.restore.specs.Choice.{mayChoose}
 
 -- event k + 1 of w is a kind 2 receive after its worker's start, of a send of v at or below index x
-unfoldable pub loses : Log → List ℕ → ℕ → ℕ → ℕ → ℕ → Bool
+unfoldable pub loses : Workers → List ℕ → ℕ → ℕ → ℕ → ℕ → Bool
 loses log starts v x w k =
     leb (at starts w) k && isUnlogged (eventOf log w (k + 1)) && eqb (eventOf log w (k + 1) .peer) v && leb (eventOf log w (k + 1) .send) x
 
-unfoldable pub workerLoses : Log → List ℕ → List ℕ → ℕ → ℕ → ℕ → Bool
+unfoldable pub workerLoses : Workers → List ℕ → List ℕ → ℕ → ℕ → ℕ → Bool
 workerLoses log cut starts v x w = anyBelow (loses log starts v x w) (at cut w)
 
 -- whether worker v, started at index x, could not send again what some worker needs
-unfoldable pub lost : Log → List ℕ → List ℕ → ℕ → ℕ → Bool
-lost log cut starts v x = anyBelow (workerLoses log cut starts v x) (size log)
+unfoldable pub someLoses : Workers → List ℕ → List ℕ → ℕ → ℕ → Bool
+someLoses log cut starts v x = anyBelow (workerLoses log cut starts v x) (workerCount log)
 
-unfoldable pub usable : Log → List ℕ → List ℕ → ℕ → ℕ → Bool
+unfoldable pub usable : Workers → List ℕ → List ℕ → ℕ → ℕ → Bool
 usable log cut starts v c =
-    mayChoose log v c && leb (checkpointOf log v c .index) (at starts v) && not (lost log cut starts v (checkpointOf log v c .index))
+    mayChoose log v c && leb (checkpointOf log v c .index) (at starts v) && not (someLoses log cut starts v (checkpointOf log v c .index))
 
-unfoldable pub indexIf : Log → List ℕ → List ℕ → ℕ → ℕ → ℕ
+unfoldable pub indexIf : Workers → List ℕ → List ℕ → ℕ → ℕ → ℕ
 indexIf log cut starts v c = cond (usable log cut starts v c) (checkpointOf log v c .index) 0
 
-unfoldable pub loweredAt : Log → List ℕ → List ℕ → ℕ → ℕ
-loweredAt log cut starts v = maxBelow (indexIf log cut starts v) (checkpoints log v + 1)
+unfoldable pub rolledBackAt : Workers → List ℕ → List ℕ → ℕ → ℕ
+rolledBackAt log cut starts v = maxBelow (indexIf log cut starts v) (checkpointCount log v + 1)
 
-unfoldable pub lowered : Log → List ℕ → List ℕ → List ℕ
-lowered log cut starts = tabulate (loweredAt log cut starts) (size log)
+unfoldable pub rolledBack : Workers → List ℕ → List ℕ → List ℕ
+rolledBack log cut starts = tabulate (rolledBackAt log cut starts) (workerCount log)
 
 -- as many rounds as the cut has events within
-unfoldable pub planStarts : Log → List ℕ → List ℕ
-planStarts log cut = sweep (λ k starts. lowered log cut starts) (sumBelow (at cut) (size log)) cut
+unfoldable pub planStarts : Workers → List ℕ → List ℕ
+planStarts log cut = sweep (λ k starts. rolledBack log cut starts) (sumBelow (at cut) (workerCount log)) cut
 
 -- "Of recorded checkpoints with that index the last one listed gives the identifier; if none is recorded, 0"
-unfoldable pub standsAt : Log → ℕ → ℕ → ℕ → Bool
+unfoldable pub standsAt : Workers → ℕ → ℕ → ℕ → Bool
 standsAt log w x c = mayChoose log w c && eqb (checkpointOf log w c .index) x
 
-unfoldable pub identifierOf : Log → ℕ → ℕ → ℕ
+unfoldable pub identifierOf : Workers → ℕ → ℕ → ℕ
 identifierOf log w c = checkpointOf log w c .identifier
 
-unfoldable pub identifierAt : Log → ℕ → ℕ → ℕ
-identifierAt log w x = lastBelow (standsAt log w x) (identifierOf log w) (checkpoints log w + 1)
+unfoldable pub identifierAt : Workers → ℕ → ℕ → ℕ
+identifierAt log w x = lastBelow (standsAt log w x) (identifierOf log w) (checkpointCount log w + 1)
 
-unfoldable pub planAt : Log → List ℕ → ℕ → Checkpoint
+unfoldable pub planAt : Workers → List ℕ → ℕ → Checkpoint
 planAt log starts w = record { index = at starts w; identifier = identifierAt log w (at starts w) }
 
 -- the plan as a choice
-unfoldable pub plan : Log → List ℕ → List Checkpoint
-plan log cut = tabulate (planAt log (planStarts log cut)) (size log)
+unfoldable pub planChoice : Workers → List ℕ → List Checkpoint
+planChoice log cut = tabulate (planAt log (planStarts log cut)) (workerCount log)
 
 -- "The plan is 3 × n 32-bit words: cut, start, identifier for each worker in order"
-unfoldable pub planWord : Log → List ℕ → List ℕ → ℕ → ℕ
+unfoldable pub planWord : Workers → List ℕ → List ℕ → ℕ → ℕ
 planWord log cut starts j =
     cond (eqb (j % 3) 0) (at cut (j / 3)) (cond (eqb (j % 3) 1) (at starts (j / 3)) (identifierAt log (j / 3) (at starts (j / 3))))
 
-unfoldable pub planWords : Log → List ℕ → List ℕ
-planWords log cut = tabulate (planWord log cut (planStarts log cut)) (3 * size log)
+unfoldable pub planWords : Workers → List ℕ → List ℕ
+planWords log cut = tabulate (planWord log cut (planStarts log cut)) (3 * workerCount log)

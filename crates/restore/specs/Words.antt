@@ -3,16 +3,18 @@
 use mathlib.Core.List.{List}
 use Prim.Native.Nat.{ℕ, _+_, _*_}
 use Rattle.ranges.specs.Fold.{tabulate}
-use Rattle.causality.specs.Cut.{at}
+use Rattle.lent.specs.Lent.{at}
+use Rattle.log.specs.Model.{Workers, workerCount}
 
-unfoldable pub planCut : List ℕ → ℕ → ℕ
-planCut plan w = at plan (3 * w)
+unfoldable pub cutIn : List ℕ → ℕ → ℕ
+cutIn words w = at words (3 * w)
 
-unfoldable pub planStart : List ℕ → ℕ → ℕ
-planStart plan w = at plan (3 * w + 1)
+unfoldable pub startIn : List ℕ → ℕ → ℕ
+startIn words w = at words (3 * w + 1)
 
-unfoldable pub cutsIn : List ℕ → ℕ → List ℕ
-cutsIn plan n = tabulate (planCut plan) n
+-- the cut and the starts that plan words give the workers
+unfoldable pub cutsIn : Workers → List ℕ → List ℕ
+cutsIn log words = tabulate (cutIn words) (workerCount log)
 
-unfoldable pub startsIn : List ℕ → ℕ → List ℕ
-startsIn plan n = tabulate (planStart plan) n
+unfoldable pub startsIn : Workers → List ℕ → List ℕ
+startsIn log words = tabulate (startIn words) (workerCount log)

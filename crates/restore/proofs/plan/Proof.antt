@@ -1,72 +1,67 @@
 -- `restore::plan` meets its contract. Assumes nothing.
-use Rattle.restore.proofs.Written.{plan-long}
 use mathlib.Core.Path.{refl, sym, _∙_}
 use native.Mathlib.Omega.{arith}
-use Rattle.accept.proofs.Accepted.{accepted-layout}
-use lib.ListN.{length-take}
 use borrow.Author.Tests.{ne-eqb}
-use Rattle.restore.proofs.Allowed.{allowed}
-use Rattle.restore.specs.Calls.{planAnswer, refusedPlan, planWordsAfter}
-use Rattle.causality.specs.Lent.{unlessRefused, onto}
+use lib.ListN.{length-take}
+use lib.Seq.{length-take-le}
+use Rattle.accept.proofs.Accepted.{accepted-layout}
+use Rattle.lent.proofs.Lent.{written, untouched}
+use Rattle.causality.proofs.Allowed.{search-ok}
+use Rattle.restore.specs.Calls.{foundPlan, planAnswer}
+use Rattle.restore.proofs.Written.{plan-long}
 use borrow.Author.Needs.{needs}
 use Rattle.restore.proofs.plan.Statement.{statement}
 use Rattle.restore.proofs.plan.Tie as tie
 
-plan-refusal-requires : tie.Need-plan-refusal-requires
-plan-refusal-requires c κs = search needs
-
-refused-requires : tie.Need-refused-requires
-refused-requires c κs = search needs
-
 returns : tie.Need-returns
-unfolding planAnswer planWordsAfter unlessRefused
-returns c = rw (← c .before .before .plan-refusal .ensures, ne-eqb _ _ (c .before .if1 .taken)) (c .refused .ensures, refl, λ no. refl)
+unfolding planAnswer
+returns c = (c .before .search-refusal .ensures, (rw (ne-eqb _ _ (c .if1 .taken)), (untouched _ _ _ (c .if1 .taken), λ no. refl)))
 
-size-of-requires : tie.Need-size-of-requires
-size-of-requires c κs = accepted-layout _ (allowed _ _ _ _ _ (sym (c .before .plan-refusal .ensures) ∙ c .if1 .left) .accepted)
-
-mul-all : tie.Need-mul-all
-mul-all c = search needs
+worker-count-requires : tie.Need-worker-count-requires
+worker-count-requires c κs = accepted-layout _ (search-ok (c .before .search-refusal .ensures) (c .if1 .left) .line .breakpoint .accepted)
 
 slice-relend-prefix-plan-found : tie.Need-slice-relend-prefix-plan-found
-slice-relend-prefix-plan-found c = rw (c .size-of .ensures .0) (allowed _ _ _ _ _ (sym (c .before .before .plan-refusal .ensures) ∙ c .before .if1 .left) .words)
+slice-relend-prefix-plan-found c =
+    let lent = search-ok (c .before .before .search-refusal .ensures) (c .before .if1 .left) in
+    omega (arith, lent .line .enough, c .worker-count .ensures .0)
 
 slice-aggregate-plan-found : tie.Need-slice-aggregate-plan-found
-slice-aggregate-plan-found c = let h = allowed _ _ _ _ _ (sym (c .before .before .before .plan-refusal .ensures) ∙ c .before .before .if1 .left) .words in simp length-take (omega (arith, h, c .before .size-of .ensures .0))
+slice-aggregate-plan-found c =
+    let lent = search-ok (c .before .before .before .search-refusal .ensures) (c .before .before .if1 .left) in
+    sym (length-take-le _ _ (omega (arith, lent .line .enough, c .before .worker-count .ensures .0)))
 
 slice-relend-prefix-plan-found-2 : tie.Need-slice-relend-prefix-plan-found-2
-slice-relend-prefix-plan-found-2 c = rw (c .before .size-of .ensures .0) (allowed _ _ _ _ _ (sym (c .before .before .before .plan-refusal .ensures) ∙ c .before .before .if1 .left) .room)
+slice-relend-prefix-plan-found-2 c =
+    let lent = search-ok (c .before .before .before .search-refusal .ensures) (c .before .before .if1 .left) in
+    omega (arith, lent .room, c .before .worker-count .ensures .0)
 
 slice-aggregate-plan-found-2 : tie.Need-slice-aggregate-plan-found-2
-slice-aggregate-plan-found-2 c = let h = allowed _ _ _ _ _ (sym (c .before .before .before .before .plan-refusal .ensures) ∙ c .before .before .before .if1 .left) .room in simp length-take (omega (arith, h, c .before .before .size-of .ensures .0))
+slice-aggregate-plan-found-2 c =
+    let lent = search-ok (c .before .before .before .before .search-refusal .ensures) (c .before .before .before .if1 .left) in
+    sym (length-take-le _ _ (omega (arith, lent .room, c .before .before .worker-count .ensures .0)))
 
 plan-found-requires : tie.Need-plan-found-requires
-plan-found-requires c κs = let h = allowed _ _ _ _ _ (sym (c .before .before .before .before .plan-refusal .ensures) ∙ c .before .before .before .if1 .left) in (h .accepted, simp length-take (omega (arith, h .words, c .before .before .size-of .ensures .0)), simp length-take (omega (arith, h .room, c .before .before .size-of .ensures .0)), h .worker, h .event)
-
-same-length : tie.Need-same-length
-same-length c = search needs
-
-same-length-2 : tie.Need-same-length-2
-same-length-2 c = search needs
+plan-found-requires c κs =
+    let lent = search-ok (c .before .before .before .before .search-refusal .ensures) (c .before .before .before .if1 .left) in
+    let count = c .before .before .worker-count .ensures .0 in
+    let point = lent .line .breakpoint in (
+      point .accepted,
+      simp length-take (omega (arith, lent .line .enough, count)),
+      length-take-le _ _ (omega (arith, lent .room)) ∙ count,
+      point .within,
+      point .event,
+    )
 
 returns-2 : tie.Need-returns-2
-unfolding planAnswer refusedPlan planWordsAfter unlessRefused onto
-returns-2 c = let zero = sym (c .before .before .before .before .before .before .before .before .before .plan-refusal .ensures) ∙ c .before .before .before .before .before .before .before .before .if1 .left in rw (zero) (c .before .before .before .before .plan-found .ensures .0, rw (c .before .before .before .before .before .before .before .size-of .ensures .0, c .before .before .before .before .plan-found .ensures .1, plan-long), λ no. absurd (no refl))
+unfolding planAnswer foundPlan
+returns-2 c =
+    let found = c .before .before .before .before .before .before .before .before .before .search-refusal .ensures in
+    let none = c .before .before .before .before .before .before .before .before .if1 .left in
+    let count = c .before .before .before .before .before .before .before .worker-count .ensures .0 in
+    let answer = c .before .before .before .before .plan-found .ensures in
+    rw (answer .0)
+    (sym none ∙ found, (refl, (rw (answer .1, count) (written _ _ _ _ refl (plan-long _ _)), λ no. absurd (no refl))))
 
 pub plan-spec : {M : Type 1} → statement M
 plan-spec =
-    tie.close
-    (tie.spec
-    plan-refusal-requires
-    refused-requires
-    returns
-    size-of-requires
-    mul-all
-    slice-relend-prefix-plan-found
-    slice-aggregate-plan-found
-    slice-relend-prefix-plan-found-2
-    slice-aggregate-plan-found-2
-    plan-found-requires
-    same-length
-    same-length-2
-    returns-2)
+    tie.close (tie.spec (λ c κs. search needs) returns worker-count-requires (λ c. search needs) slice-relend-prefix-plan-found slice-aggregate-plan-found slice-relend-prefix-plan-found-2 slice-aggregate-plan-found-2 plan-found-requires (λ c. search needs) (λ c. search needs) returns-2)

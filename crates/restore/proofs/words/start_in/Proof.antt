@@ -1,0 +1,17 @@
+-- `restore::words::start_in` meets its contract. Assumes nothing.
+use mathlib.Core.Path.{refl}
+use Rattle.restore.specs.Words.{startIn}
+use borrow.Author.Needs.{needs}
+use Rattle.restore.proofs.words.start_in.Statement.{statement}
+use Rattle.restore.proofs.words.start_in.Tie as tie
+
+shared-slice-read-result : tie.Need-shared-slice-read-result
+shared-slice-read-result c = search needs
+
+returns : tie.Need-returns
+unfolding startIn
+returns c = refl
+
+pub start-in-spec : {M : Type 1} → statement M
+start-in-spec =
+    tie.close (tie.spec (λ c. search needs) (λ c. search needs) (λ c. search needs) shared-slice-read-result returns)

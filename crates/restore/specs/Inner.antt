@@ -1,0 +1,3 @@
+-- What only the contracts of this crate's own functions cite.
+pub mod Held
+pub mod Rollback
