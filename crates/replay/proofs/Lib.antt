@@ -3,8 +3,6 @@ pub mod Lists
 pub mod Count
 pub mod Progress
 pub mod Works
-pub mod Words
 pub mod Call
-pub mod Restored
-pub mod Trace
-pub mod Answers
+pub mod Storing
+pub mod Demand

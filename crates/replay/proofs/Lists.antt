@@ -6,8 +6,8 @@ use Prim.Native.Nat.{ℕ, zero, suc, _+_, _<_}
 use native.Mathlib.Nat.{not-suc-le-zero}
 use native.Mathlib.Omega.{arith}
 use lib.ListN.{length, getD, take}
-use Rattle.log.specs.Model.{Log}
-use Rattle.replay.specs.Machine.{Step, moved, stepOf, run, after}
+use Rattle.log.specs.Model.{Workers}
+use Rattle.replay.specs.Machine.{Step, moved, stepOf, run, positionsAfter}
 use Rattle.replay.proofs.Steps.{Between, moved-between}
 
 -- the last of a list with a first element
@@ -16,10 +16,10 @@ unfolding getLastD
 last-cons a d [] = refl
 last-cons a d (b ∷ l) = refl
 
-module _ (log : Log) (cut starts : List ℕ) where
+module _ (log : Workers) (cut starts : List ℕ) where
   -- every list of steps keeps the positions between the starts and the cut
-  pub after-between : (positions workers : List ℕ) → Between log cut starts positions → Between log cut starts (after log cut starts positions workers)
-  unfolding after
+  pub after-between : (positions workers : List ℕ) → Between log cut starts positions → Between log cut starts (positionsAfter log cut starts positions workers)
+  unfolding positionsAfter
   after-between positions [] between = between
   after-between positions (w ∷ workers) between =
       after-between (moved log cut starts positions w) workers (moved-between log cut starts positions w between)
@@ -32,42 +32,42 @@ module _ (log : Log) (cut starts : List ℕ) where
 
   -- step k is a step of worker number k from the positions after the numbers before it
   pub run-each : (positions workers : List ℕ) (k : ℕ) (d : Step) → k < length workers
-      → getD (run log cut starts positions workers) k d ≡ stepOf log cut starts (after log cut starts positions (take k workers)) (getD workers k 0)
-  unfolding run after
+      → getD (run log cut starts positions workers) k d ≡ stepOf log cut starts (positionsAfter log cut starts positions (take k workers)) (getD workers k 0)
+  unfolding run positionsAfter
   run-each positions [] k d h = absurd (not-suc-le-zero h)
   run-each positions (w ∷ workers) zero d h = refl
   run-each positions (w ∷ workers) (suc k) d h = run-each (moved log cut starts positions w) workers k d (omega arith)
 
   -- the positions of the last step are the positions after the list
-  pub run-last : (positions workers : List ℕ) → getLastD (map (λ (s : Step). s .positions) (run log cut starts positions workers)) positions ≡ after log cut starts positions workers
-  unfolding run after stepOf getLastD
+  pub run-last : (positions workers : List ℕ) → getLastD (map (λ (s : Step). s .positions) (run log cut starts positions workers)) positions ≡ positionsAfter log cut starts positions workers
+  unfolding run positionsAfter stepOf getLastD
   run-last positions [] = refl
   run-last positions (w ∷ workers) =
       last-cons (moved log cut starts positions w) positions (map (λ (s : Step). s .positions) (run log cut starts (moved log cut starts positions w) workers))
       ∙ run-last (moved log cut starts positions w) workers
 
   -- a second list goes on from where the first ends: its positions
-  pub after-append : (positions a b : List ℕ) → after log cut starts positions (a ++ b) ≡ after log cut starts (after log cut starts positions a) b
-  unfolding after
+  pub after-append : (positions a b : List ℕ) → positionsAfter log cut starts positions (a ++ b) ≡ positionsAfter log cut starts (positionsAfter log cut starts positions a) b
+  unfolding positionsAfter
   after-append positions [] b = refl
   after-append positions (w ∷ a) b = after-append (moved log cut starts positions w) a b
 
   -- .. and its steps
   pub run-append : (positions a b : List ℕ)
-      → run log cut starts positions (a ++ b) ≡ run log cut starts positions a ++ run log cut starts (after log cut starts positions a) b
-  unfolding run after
+      → run log cut starts positions (a ++ b) ≡ run log cut starts positions a ++ run log cut starts (positionsAfter log cut starts positions a) b
+  unfolding run positionsAfter
   run-append positions [] b = refl
   run-append positions (w ∷ a) b = ap (λ (l : List Step). stepOf log cut starts positions w ∷ l) (run-append (moved log cut starts positions w) a b)
 
   -- one more worker at the end: the positions
   pub after-more : (positions workers : List ℕ) (w : ℕ)
-      → after log cut starts positions (workers ++ (w ∷ [])) ≡ moved log cut starts (after log cut starts positions workers) w
-  unfolding after
+      → positionsAfter log cut starts positions (workers ++ (w ∷ [])) ≡ moved log cut starts (positionsAfter log cut starts positions workers) w
+  unfolding positionsAfter
   after-more positions workers w = after-append positions workers (w ∷ [])
 
   -- .. and the steps
   pub run-more : (positions workers : List ℕ) (w : ℕ)
       → run log cut starts positions (workers ++ (w ∷ []))
-      ≡ run log cut starts positions workers ++ (stepOf log cut starts (after log cut starts positions workers) w ∷ [])
+      ≡ run log cut starts positions workers ++ (stepOf log cut starts (positionsAfter log cut starts positions workers) w ∷ [])
   unfolding run
   run-more positions workers w = run-append positions workers (w ∷ [])

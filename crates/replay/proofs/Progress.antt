@@ -11,34 +11,35 @@ use lib.Dec.{ltb}
 use Rattle.ranges.specs.Fold.{anyBelow}
 use Rattle.ranges.proofs.Any.{any-each, any-some}
 use Rattle.ranges.proofs.Order.{lt-or-le, descend}
-use Rattle.log.specs.Model.{Log, size, eventOf, isUnlogged, isReceive}
+use Rattle.log.specs.Model.{Workers, workerCount, eventOf, isUnlogged, isReceive}
 use Rattle.accept.specs.WellFormed.{WellFormed}
 use Rattle.accept.proofs.Stamps.{waits-earlier}
-use Rattle.causality.specs.Cut.{at, Consistent, Within}
+use Rattle.lent.specs.Lent.{at}
+use Rattle.causality.specs.Cut.{Consistent, Within}
 use Rattle.restore.specs.Choice.{Startable}
 use Rattle.replay.specs.Machine.{answerOf, AtCut}
 use Rattle.replay.proofs.Steps.{Between, Ready, done-ready}
 
 -- a worker below its cut
-abbrev Behind : Log → List ℕ → List ℕ → ℕ → Type 0
-Behind log cut positions w = (w < size log) × (at positions w < at cut w)
+abbrev Behind : Workers → List ℕ → List ℕ → ℕ → Type 0
+Behind log cut positions w = (w < workerCount log) × (at positions w < at cut w)
 
 -- positions within the cut are at it, or some worker is below its cut
-at-cut-or-behind : (log : Log) (cut positions : List ℕ) → Within positions cut → AtCut log cut positions ⊎ ((w : ℕ) × Behind log cut positions w)
-at-cut-or-behind log cut positions within = go (anyBelow behind (size log)) refl
+at-cut-or-behind : (log : Workers) (cut positions : List ℕ) → Within positions cut → AtCut log cut positions ⊎ ((w : ℕ) × Behind log cut positions w)
+at-cut-or-behind log cut positions within = go (anyBelow behind (workerCount log)) refl
   where
     behind : ℕ → Bool
     behind w = ltb (at positions w) (at cut w)
 
-    go : (b : Bool) → anyBelow behind (size log) ≡ b → AtCut log cut positions ⊎ ((w : ℕ) × Behind log cut positions w)
-    go true q = let some = any-some behind (size log) q in inr (some .0, (some .1, ltb-true (at positions (some .0)) (at cut (some .0)) (some .2)))
+    go : (b : Bool) → anyBelow behind (workerCount log) ≡ b → AtCut log cut positions ⊎ ((w : ℕ) × Behind log cut positions w)
+    go true q = let some = any-some behind (workerCount log) q in inr (some .0, (some .1, ltb-true (at positions (some .0)) (at cut (some .0)) (some .2)))
     go false q =
         inl (λ w h.
-        let low = ltb-false (at positions w) (at cut w) (any-each behind (size log) q w h) in
+        let low = ltb-false (at positions w) (at cut w) (any-each behind (workerCount log) q w h) in
         let high = within w in
         omega arith)
 
-module _ (log : Log) (formed : WellFormed log) (cut : List ℕ) (consistent : Consistent log cut) (starts : List ℕ) (startable : Startable log cut starts)
+module _ (log : Workers) (formed : WellFormed log) (cut : List ℕ) (consistent : Consistent log cut) (starts : List ℕ) (startable : Startable log cut starts)
     (positions : List ℕ) (between : Between log cut starts positions) where
   -- the stamp of a worker's next event
   nextStamp : ℕ → ℕ
@@ -64,7 +65,7 @@ module _ (log : Log) (formed : WellFormed log) (cut : List ℕ) (consistent : Co
       go false other = inl (record { worker = behind .0; below = behind .1; sent = λ q. absurd (false≢true (sym other ∙ q)) })
 
   -- all are at their cuts, or some worker's step would be done
-  pub progress : AtCut log cut positions ⊎ ((w : ℕ) × (w < size log) × (answerOf log cut starts positions w ≡ 0))
+  pub progress : AtCut log cut positions ⊎ ((w : ℕ) × (w < workerCount log) × (answerOf log cut starts positions w ≡ 0))
   progress =
       ⊎-elim inl
       (λ some.

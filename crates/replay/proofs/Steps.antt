@@ -13,24 +13,25 @@ use lib.ListN.{length, set, length-set}
 use lib.Seq.{getD-set-same, getD-set-other}
 use Rattle.ranges.proofs.Order.{eq-or-ne}
 use Rattle.log.specs.declared.Event.{Event}
-use Rattle.log.specs.Model.{Log, size, eventOf, isUnlogged}
-use Rattle.log.proofs.Readable.{peel}
-use Rattle.causality.specs.Cut.{at, Within}
+use Rattle.log.specs.Model.{Workers, workerCount, eventOf, isUnlogged}
+use Rattle.lent.proofs.Lent.{peel}
+use Rattle.lent.specs.Lent.{at}
+use Rattle.causality.specs.Cut.{Within}
 use Rattle.replay.specs.Machine.{receiveAnswer, eventAnswer, answerOf, movedBy, moved}
 
 -- positions of a replay: one for each worker, from its start to its cut
-pub record Between (log : Log) (cut starts positions : List ℕ) : Type 0 where
-  pub long : length positions ≡ size log
+pub record Between (log : Workers) (cut starts positions : List ℕ) : Type 0 where
+  pub long : length positions ≡ workerCount log
   pub low : Within starts positions
   pub high : Within positions cut
 
 -- the starts themselves
-pub starts-between : (log : Log) (cut starts : List ℕ) → length starts ≡ size log → Within starts cut → Between log cut starts starts
+pub starts-between : (log : Workers) (cut starts : List ℕ) → length starts ≡ workerCount log → Within starts cut → Between log cut starts starts
 starts-between log cut starts long within = record { long = long; low = λ w. le-refl (at starts w); high = within }
 
 -- a worker whose next event can be done: it is within the cut, and as a kind 2 receive it has its send between the sender's start and position
-pub record Ready (log : Log) (cut starts positions : List ℕ) (w : ℕ) : Type 0 where
-  pub worker : w < size log
+pub record Ready (log : Workers) (cut starts positions : List ℕ) (w : ℕ) : Type 0 where
+  pub worker : w < workerCount log
   pub below : at positions w < at cut w
   pub sent : isUnlogged (eventOf log w (at positions w + 1)) ≡ true
       → (at starts (eventOf log w (at positions w + 1) .peer) < eventOf log w (at positions w + 1) .send)
@@ -41,15 +42,15 @@ pub record Raised (positions : List ℕ) (w : ℕ) (next : List ℕ) : Type 0 wh
   pub here : at next w ≡ at positions w + 1
   pub others : (v : ℕ) → v ≢ w → at next v ≡ at positions v
 
-module _ (log : Log) (cut starts positions : List ℕ) (w : ℕ) where
+module _ (log : Workers) (cut starts positions : List ℕ) (w : ℕ) where
   ready-of : answerOf log cut starts positions w ≡ 0 → Ready log cut starts positions w
   unfolding answerOf eventAnswer receiveAnswer
   ready-of e =
       let event = eventOf log w (at positions w + 1) in
-      let known = peel (leb (size log) w) 11 _ e in
+      let known = peel (leb (workerCount log) w) 11 _ e in
       let within = peel (leb (at cut w) (at positions w)) 20 _ (known .1) in
       record {
-        worker = leb-false (size log) w (known .0);
+        worker = leb-false (workerCount log) w (known .0);
         below = leb-false (at cut w) (at positions w) (within .0);
         sent = λ unlogged.
             let waits = peel (ltb (at positions (event .peer)) (event .send)) 21 _ (rw unlogged at (within .1)) in
@@ -59,7 +60,7 @@ module _ (log : Log) (cut starts positions : List ℕ) (w : ℕ) where
 
   done-of : Ready log cut starts positions w → answerOf log cut starts positions w ≡ 0
   unfolding answerOf eventAnswer receiveAnswer
-  done-of ready = rw (lt-leb (size log) w (ready .worker), lt-leb (at cut w) (at positions w) (ready .below)) (go (isUnlogged event) refl)
+  done-of ready = rw (lt-leb (workerCount log) w (ready .worker), lt-leb (at cut w) (at positions w) (ready .below)) (go (isUnlogged event) refl)
     where
       event : Event
       event = eventOf log w (at positions w + 1)
@@ -80,7 +81,7 @@ module _ (log : Log) (cut starts positions : List ℕ) (w : ℕ) where
   refused other = rw (ne-eqb (answerOf log cut starts positions w) 0 other)
 
   -- a done step raises position w alone, by one
-  pub done-raises : size log ≤ length positions → answerOf log cut starts positions w ≡ 0 → Raised positions w (moved log cut starts positions w)
+  pub done-raises : workerCount log ≤ length positions → answerOf log cut starts positions w ≡ 0 → Raised positions w (moved log cut starts positions w)
   unfolding moved movedBy
   done-raises long e =
       let h : w < length positions = let r = ready-of e in omega arith in

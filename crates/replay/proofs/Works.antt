@@ -11,22 +11,23 @@ use Rattle.ranges.specs.Fold.{sumBelow}
 use Rattle.ranges.proofs.Order.{lt-or-le, eq-or-ne}
 use Rattle.ranges.proofs.Sum.{sum-le}
 use Rattle.log.specs.declared.Checkpoint.{Checkpoint}
-use Rattle.log.specs.Model.{Log, size, eventOf, isUnlogged}
+use Rattle.log.specs.Model.{Workers, workerCount, eventOf, isUnlogged}
 use Rattle.log.proofs.Read.{worker-within}
 use Rattle.accept.specs.WellFormed.{WellFormed}
-use Rattle.causality.specs.Cut.{at, Consistent, Within}
+use Rattle.lent.specs.Lent.{at}
+use Rattle.causality.specs.Cut.{Consistent, Within}
 use Rattle.restore.specs.Choice.{IsChoice, startsOf, Startable}
-use Rattle.replay.specs.Machine.{answerOf, moved, after, AtCut, Works}
+use Rattle.replay.specs.Machine.{answerOf, moved, positionsAfter, AtCut, Works}
 use Rattle.replay.proofs.Steps.{Between, starts-between, done-ready, refused, done-raises, moved-long, moved-between}
 use Rattle.replay.proofs.Count.{done-counts, moved-sum, at-cut-sum}
 use Rattle.replay.proofs.Progress.{progress}
 
-module _ (log : Log) (cut starts : List ℕ) where
+module _ (log : Workers) (cut starts : List ℕ) where
   -- event k + 1 of w was done by a step of the list: if it is a kind 2 receive, its send is above the sender's start
-  pub passed : (positions workers : List ℕ) → length positions ≡ size log
-      → (w k : ℕ) → at positions w ≤ k → k < at (after log cut starts positions workers) w → isUnlogged (eventOf log w (k + 1)) ≡ true
+  pub passed : (positions workers : List ℕ) → length positions ≡ workerCount log
+      → (w k : ℕ) → at positions w ≤ k → k < at (positionsAfter log cut starts positions workers) w → isUnlogged (eventOf log w (k + 1)) ≡ true
       → at starts (eventOf log w (k + 1) .peer) < eventOf log w (k + 1) .send
-  unfolding after
+  unfolding positionsAfter
   passed positions [] long w k low high unlogged = let no : ⊥ = omega arith in absurd no
   passed positions (v ∷ workers) long w k low high unlogged =
       ⊎-elim here (λ l. passed (moved log cut starts positions v) workers (moved-long log cut starts positions v ∙ long) w k l high unlogged)
@@ -51,20 +52,20 @@ module _ (log : Log) (cut starts : List ℕ) where
           (eq-or-ne (answerOf log cut starts positions v) 0)
 
   -- where some list brings every position to its cut, the starts are startable
-  pub works-startable : Consistent log cut → length starts ≡ size log → Works log cut starts → Startable log cut starts
+  pub works-startable : Consistent log cut → length starts ≡ workerCount log → Works log cut starts → Startable log cut starts
   works-startable consistent long works w k low high unlogged =
       let within = worker-within log w k (let l = consistent .isCut .within w in omega arith) in
       let end = works .1 w within in
       passed starts (works .0) long w k low (omega arith) unlogged
 
-module _ (log : Log) (formed : WellFormed log) (cut : List ℕ) (consistent : Consistent log cut) (starts : List ℕ) where
+module _ (log : Workers) (formed : WellFormed log) (cut : List ℕ) (consistent : Consistent log cut) (starts : List ℕ) where
   -- from startable starts, where at most `left` events are left, some list brings every position to its cut
   pub finish : Startable log cut starts → (left : ℕ) (positions : List ℕ) → Between log cut starts positions
-      → sumBelow (at cut) (size log) ≤ sumBelow (at positions) (size log) + left
-      → (workers : List ℕ) × AtCut log cut (after log cut starts positions workers)
-  unfolding after
+      → sumBelow (at cut) (workerCount log) ≤ sumBelow (at positions) (workerCount log) + left
+      → (workers : List ℕ) × AtCut log cut (positionsAfter log cut starts positions workers)
+  unfolding positionsAfter
   finish startable zero positions between enough =
-      let most = sum-le (at positions) (at cut) (size log) (λ w h. between .high w) in
+      let most = sum-le (at positions) (at cut) (workerCount log) (λ w h. between .high w) in
       ([], at-cut-sum log cut positions (between .high) .1 (omega arith))
   finish startable (suc left) positions between enough =
       ⊎-elim
@@ -78,14 +79,14 @@ module _ (log : Log) (formed : WellFormed log) (cut : List ℕ) (consistent : Co
       (progress log formed cut consistent starts startable positions between)
 
   -- starts within the cut work exactly when they are startable
-  pub works-exactly : length starts ≡ size log → Within starts cut → Works log cut starts ↔ Startable log cut starts
+  pub works-exactly : length starts ≡ workerCount log → Within starts cut → Works log cut starts ↔ Startable log cut starts
   works-exactly long within = (
     works-startable log cut starts consistent long,
-    (λ startable. finish startable (sumBelow (at cut) (size log)) starts (starts-between log cut starts long within) (omega arith)),
+    (λ startable. finish startable (sumBelow (at cut) (workerCount log)) starts (starts-between log cut starts long within) (omega arith)),
   )
 
 -- a choice that works starts no later than starts that no startable choice starts later than
-pub works-within : (log : Log) (cut : List ℕ) → Consistent log cut → (p : List ℕ)
+pub works-within : (log : Workers) (cut : List ℕ) → Consistent log cut → (p : List ℕ)
     → ((other : List Checkpoint) → IsChoice log cut other → Startable log cut (startsOf other) → Within (startsOf other) p)
     → (other : List Checkpoint) → IsChoice log cut other → Works log cut (startsOf other) → Within (startsOf other) p
 works-within log cut consistent p latest other choice works =

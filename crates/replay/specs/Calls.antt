@@ -1,94 +1,69 @@
--- The whole answer of the call `step`, from all that is lent.
+-- The whole answer of the calls `step` and `steps`, from all that is lent.
 -- Assumes nothing.
-use mathlib.Core.Path.{_≡_}
 use mathlib.Core.Bool.{Bool, not, cond, _&&_}
 use mathlib.Core.List.{List, [], _∷_}
-use Prim.Native.Nat.{ℕ, _*_, _<_, _≤_}
+use Prim.Native.Nat.{ℕ, _*_}
 use lib.Dec.{eqb, leb}
 use lib.ListN.{length}
 use Rattle.ranges.specs.Fold.{anyBelow}
-use Rattle.log.specs.Layout.{logOf}
-use Rattle.log.specs.Model.{Log, size, count}
-use Rattle.accept.specs.Refusal.{orElse, refusal}
-use Rattle.causality.specs.Cut.{at}
-use Rattle.causality.specs.Lent.{workerRefusal, wordsRefusal, unlessRefused}
-use Rattle.restore.specs.Words.{planCut, planStart, cutsIn, startsIn}
-use Rattle.replay.specs.Machine.{Step, answerOf, movedBy, moved, run, after}
+use Rattle.lent.specs.Lent.{at, orElse, wordsRefusal}
+use Rattle.log.specs.Model.{Workers, workerCount, eventCount}
+use Rattle.accept.specs.Refusal.{Given}
+use Rattle.causality.specs.Refusals.{workerRefusal}
+use Rattle.restore.specs.Words.{cutIn, startIn, cutsIn, startsIn}
+use Rattle.replay.specs.Machine.{Step, answerOf, movedBy, moved, run, positionsAfter}
 
 -- 16: "some worker without start ≤ position ≤ cut ≤ count"
-unfoldable pub disordered : Log → List ℕ → List ℕ → ℕ → Bool
-disordered log plan positions w =
-    not (leb (planStart plan w) (at positions w) && leb (at positions w) (planCut plan w) && leb (planCut plan w) (count log w))
+unfoldable pub disordered : Workers → List ℕ → List ℕ → ℕ → Bool
+disordered log words positions w =
+    not (leb (startIn words w) (at positions w) && leb (at positions w) (cutIn words w) && leb (cutIn words w) (eventCount log w))
 
-unfoldable pub orderRefusal : Log → List ℕ → List ℕ → ℕ
-orderRefusal log plan positions = cond (anyBelow (disordered log plan positions) (size log)) 16 0
+unfoldable pub orderRefusal : Workers → List ℕ → List ℕ → ℕ
+orderRefusal log words positions = cond (anyBelow (disordered log words positions) (workerCount log)) 16 0
 
--- 14, for the plan words and the position words
-unfoldable pub stateRefusal : Log → ℕ → ℕ → ℕ
-stateRefusal log plan positions = orElse (wordsRefusal plan (3 * size log)) (wordsRefusal positions (size log))
+-- 14, for the plan words, the position words and what else is lent (`others` is 14 where that is too short), and 16
+unfoldable pub stateRefusal : Workers → List ℕ → List ℕ → ℕ → ℕ
+stateRefusal log words positions others =
+    orElse
+    (orElse (wordsRefusal (length words) (3 * workerCount log)) (orElse (wordsRefusal (length positions) (workerCount log)) others))
+    (orderRefusal log words positions)
 
--- what a step of any worker is given when none of 1 to 11, 14 and 16 applies
-pub record IsState (s plan positions : List ℕ) : Type 0 where
-  pub accepted : refusal s ≡ 0
-  pub planned : 3 * size (logOf s) ≤ length plan
-  pub placed : size (logOf s) ≤ length positions
-  pub ordered : (w : ℕ) → w < size (logOf s) → (planStart plan w ≤ at positions w) × (at positions w ≤ planCut plan w) × (planCut plan w ≤ count (logOf s) w)
+-- a step: 1 to 11, 12, 14 and 16
+unfoldable pub stepRefusal : Given → List ℕ → List ℕ → ℕ → ℕ
+stepRefusal log words positions w =
+    orElse (log .refusal) (orElse (workerRefusal (log .workers) w) (stateRefusal (log .workers) words positions 0))
 
--- 1 to 11, 12, 14 and 16
-unfoldable pub stepRefusal : List ℕ → List ℕ → List ℕ → ℕ → ℕ
-stepRefusal s plan positions w =
-    orElse (refusal s)
-    (orElse (workerRefusal (logOf s) w)
-    (orElse (stateRefusal (logOf s) (length plan) (length positions))
-    (orderRefusal (logOf s) plan positions)))
+-- a list of steps, which tests the log and the words once: 1 to 11, 14 and 16. A worker number that is none of the log's is answered by 12.
+unfoldable pub stepsRefusal : Given → List ℕ → List ℕ → ℕ → ℕ
+stepsRefusal log words positions others = orElse (log .refusal) (stateRefusal (log .workers) words positions others)
 
--- the machine over plan words: the answer of a step and the positions after it
-abbrev pub machineAnswer : List ℕ → List ℕ → List ℕ → ℕ → ℕ
-machineAnswer s plan positions w = answerOf (logOf s) (cutsIn plan (size (logOf s))) (startsIn plan (size (logOf s))) positions w
+-- the machine over plan words: the answer of a step, the positions after it, and the same of a list of steps
+abbrev pub machineAnswer : Workers → List ℕ → List ℕ → ℕ → ℕ
+machineAnswer log words positions w = answerOf log (cutsIn log words) (startsIn log words) positions w
 
-abbrev pub machinePositions : List ℕ → List ℕ → List ℕ → ℕ → List ℕ
-machinePositions s plan positions w = moved (logOf s) (cutsIn plan (size (logOf s))) (startsIn plan (size (logOf s))) positions w
+abbrev pub machineMoved : Workers → List ℕ → List ℕ → ℕ → List ℕ
+machineMoved log words positions w = moved log (cutsIn log words) (startsIn log words) positions w
 
--- what the call returns: these, then 21 to 23, and 0 for a done step
-unfoldable pub stepAnswer : List ℕ → List ℕ → List ℕ → ℕ → ℕ
-stepAnswer s plan positions w =
-    orElse (stepRefusal s plan positions w) (machineAnswer s plan positions w)
+abbrev pub machineRun : Workers → List ℕ → List ℕ → List ℕ → List Step
+machineRun log words positions workers = run log (cutsIn log words) (startsIn log words) positions workers
+
+abbrev pub machineAfter : Workers → List ℕ → List ℕ → List ℕ → List ℕ
+machineAfter log words positions workers = positionsAfter log (cutsIn log words) (startsIn log words) positions workers
+
+-- "A done step answers 0; any other is refused by the tables below"
+unfoldable pub stepAnswer : Given → List ℕ → List ℕ → ℕ → ℕ
+stepAnswer log words positions w = orElse (stepRefusal log words positions w) (machineAnswer (log .workers) words positions w)
 
 -- the position words after it: "changes one position or none"
-unfoldable pub stepPositions : List ℕ → List ℕ → List ℕ → ℕ → List ℕ
-stepPositions s plan positions w = movedBy (stepAnswer s plan positions w) positions w
+unfoldable pub stepAfter : Given → List ℕ → List ℕ → ℕ → List ℕ
+stepAfter log words positions w = movedBy (stepAnswer log words positions w) positions w
 
 -- one call after the other, each with the positions that the last one left: the answer and the position words of each
-unfoldable pub calls : List ℕ → List ℕ → List ℕ → List ℕ → List Step
-calls s plan positions [] = []
-calls s plan positions (w ∷ workers) =
-    record { answer = stepAnswer s plan positions w; positions = stepPositions s plan positions w } ∷ calls s plan (stepPositions s plan positions w) workers
+unfoldable pub calls : Given → List ℕ → List ℕ → List ℕ → List Step
+calls log words positions [] = []
+calls log words positions (w ∷ workers) =
+    record { answer = stepAnswer log words positions w; positions = stepAfter log words positions w } ∷ calls log words (stepAfter log words positions w) workers
 
--- ---- a list of steps that tests the log and the plan words once
--- 1 to 11, 14 for the plan words, the position words and the answers, and 16; a worker number that is none of the log's is answered by 12
-unfoldable pub stepsRefusal : List ℕ → List ℕ → List ℕ → ℕ → ℕ → ℕ
-stepsRefusal s plan positions calls answers =
-    orElse (refusal s)
-    (orElse (stateRefusal (logOf s) (length plan) (length positions))
-    (orElse (wordsRefusal answers calls)
-    (orderRefusal (logOf s) plan positions)))
-
--- the machine's run of the list over the plan words
-abbrev pub machineRun : List ℕ → List ℕ → List ℕ → List ℕ → List Step
-machineRun s plan positions workers = run (logOf s) (cutsIn plan (size (logOf s))) (startsIn plan (size (logOf s))) positions workers
-
-abbrev pub machineAfter : List ℕ → List ℕ → List ℕ → List ℕ → List ℕ
-machineAfter s plan positions workers = after (logOf s) (cutsIn plan (size (logOf s))) (startsIn plan (size (logOf s))) positions workers
-
-unfoldable pub answersOf : List Step → List ℕ
-answersOf [] = []
-answersOf (step ∷ steps) = step .answer ∷ answersOf steps
-
--- the words after it
-unfoldable pub stepsAnswers : List ℕ → List ℕ → List ℕ → List ℕ → List ℕ → List ℕ
-stepsAnswers s plan positions workers answers =
-    unlessRefused (stepsRefusal s plan positions (length workers) (length answers)) (answersOf (machineRun s plan positions workers)) answers
-
-unfoldable pub stepsPositions : List ℕ → List ℕ → List ℕ → List ℕ → ℕ → List ℕ
-stepsPositions s plan positions workers answers =
-    cond (eqb (stepsRefusal s plan positions (length workers) answers) 0) (machineAfter s plan positions workers) positions
+-- the position words after a list of steps that gives this refusal
+unfoldable pub stepsAfter : ℕ → Workers → List ℕ → List ℕ → List ℕ → List ℕ
+stepsAfter refusal log words positions workers = cond (eqb refusal 0) (machineAfter log words positions workers) positions

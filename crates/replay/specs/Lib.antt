@@ -1,3 +1,4 @@
 pub mod Machine
 pub mod Calls
 pub mod Demand3
+pub mod Inner

@@ -1,39 +1,43 @@
-// The replay machine: one step of a worker, over the words of a plan and of the positions; and a plan with a list of steps.
+// The replay machine: one step of a worker, over the words of a plan and of the positions; and lists of steps.
 
 pub mod list;
 
 ghost use mathlib.Core.Path.{_≡_};
-ghost use Prim.Native.Nat.{_*_, _<_, _≤_};
+ghost use Prim.Native.Nat.{_+_, _*_, _<_, _≤_};
 ghost use lib.ListN.{length};
 ghost use Rattle.ranges.specs.Fold.{anyBelow};
-ghost use Rattle.log.specs.Layout.{logOf};
-ghost use Rattle.log.specs.Model.{size};
-ghost use Rattle.accept.specs.Refusal.{refusal};
-ghost use Rattle.replay.specs.Calls.{disordered, IsState, stepRefusal, machineAnswer, machinePositions, stepAnswer, stepPositions};
+ghost use Rattle.lent.specs.Lent.{at};
+ghost use Rattle.log.specs.Layout.{workersOf};
+ghost use Rattle.log.specs.Limits.{maxEvents};
+ghost use Rattle.log.specs.Model.{workerCount};
+ghost use Rattle.accept.specs.Refusal.{logRefusal, given};
+ghost use Rattle.replay.specs.Calls.{disordered, stateRefusal, stepRefusal, machineAnswer, machineMoved, stepAnswer, stepAfter};
+ghost use Rattle.replay.specs.Inner.State.{IsState};
 
 // Whether worker w is without start <= position <= cut <= count.
-fn is_disordered(log: &[u8], plan: &[u32], positions: &[u32], w: usize) -> bool
-    requires { ⌜ (refusal (now log) ≡ 0) × (w < size (logOf (now log))) × (3 * size (logOf (now log)) ≤ length (now plan)) × (size (logOf (now log)) ≤ length (now positions)) ⌝ }
-    ensures { λ r. ⌜ r ≡ disordered (logOf (now (log .entry))) (now (plan .entry)) (now (positions .entry)) w ⌝ }
+fn is_disordered(log: &[u8], words: &[u32], positions: &[u32], w: usize) -> bool
+    requires { ⌜ (logRefusal (now log) ≡ 0) × (w < workerCount (workersOf (now log))) × (3 * workerCount (workersOf (now log)) ≤ length (now words))
+        × (workerCount (workersOf (now log)) ≤ length (now positions)) ⌝ }
+    ensures answer { λ r. ⌜ r ≡ disordered (workersOf (now (log .entry))) (now (words .entry)) (now (positions .entry)) w ⌝ }
 {
-    if positions[w] < plan[3 * w + 1] {
+    if positions[w] < words[3 * w + 1] {
         return true;
     }
-    if plan[3 * w] < positions[w] {
+    if words[3 * w] < positions[w] {
         return true;
     }
-    log::count_of(log, w) < plan[3 * w]
+    log::event_count(log, w) < words[3 * w]
 }
 
 // Whether some worker is.
-fn some_disordered(log: &[u8], plan: &[u32], positions: &[u32]) -> bool
-    requires { ⌜ (refusal (now log) ≡ 0) × (3 * size (logOf (now log)) ≤ length (now plan)) × (size (logOf (now log)) ≤ length (now positions)) ⌝ }
-    ensures { λ r. ⌜ r ≡ anyBelow (disordered (logOf (now (log .entry))) (now (plan .entry)) (now (positions .entry))) (size (logOf (now (log .entry)))) ⌝ }
+fn some_disordered(log: &[u8], words: &[u32], positions: &[u32]) -> bool
+    requires { ⌜ (logRefusal (now log) ≡ 0) × (3 * workerCount (workersOf (now log)) ≤ length (now words)) × (workerCount (workersOf (now log)) ≤ length (now positions)) ⌝ }
+    ensures answer { λ r. ⌜ r ≡ anyBelow (disordered (workersOf (now (log .entry))) (now (words .entry)) (now (positions .entry))) (workerCount (workersOf (now (log .entry)))) ⌝ }
 {
-    let n = log::size_of(log);
+    let n = log::worker_count(log);
     let mut w: usize = 0;
     while w < n {
-        if is_disordered(log, plan, positions, w) {
+        if is_disordered(log, words, positions, w) {
             return true;
         }
         w += 1;
@@ -41,40 +45,47 @@ fn some_disordered(log: &[u8], plan: &[u32], positions: &[u32]) -> bool
     false
 }
 
-// Refusals 1 to 16 of a step.
-fn step_refusal(log: &[u8], plan: &[u32], positions: &[u32], worker: u32) -> u32
-    ensures { λ r. ⌜ r ≡ stepRefusal (now (log .entry)) (now (plan .entry)) (now (positions .entry)) worker ⌝ }
+// Refusals 14 and 16 of a step or a list of steps; `others` is the refusal of what else is lent.
+fn state_refusal(log: &[u8], words: &[u32], positions: &[u32], others: u32) -> u32
+    requires { ⌜ logRefusal (now log) ≡ 0 ⌝ }
+    ensures answer { λ r. ⌜ r ≡ stateRefusal (workersOf (now (log .entry))) (now (words .entry)) (now (positions .entry)) others ⌝ }
 {
-    let number = accept::accept(log);
-    if number != 0 {
-        return number;
+    let n = log::worker_count(log);
+    let more = lent::or_else(lent::words_refusal(positions.len(), n), others);
+    let short = lent::or_else(lent::words_refusal(words.len(), 3 * n), more);
+    if short != 0 {
+        return short;
     }
-    let n = log::size_of(log);
-    if n <= worker as usize {
-        return 12;
-    }
-    if plan.len() < 3 * n {
-        return 14;
-    }
-    if positions.len() < n {
-        return 14;
-    }
-    if some_disordered(log, plan, positions) {
+    if some_disordered(log, words, positions) {
         return 16;
     }
     0
 }
 
-// The answer of a step of worker w that is not refused by 1 to 11, 14 or 16.
-fn answer(log: &[u8], plan: &[u32], positions: &[u32], w: usize) -> u32
-    requires { ⌜ IsState (now log) (now plan) (now positions) ⌝ }
-    ensures { λ r. ⌜ r ≡ machineAnswer (now (log .entry)) (now (plan .entry)) (now (positions .entry)) w ⌝ }
+// Refusals 1 to 16 of a step.
+fn step_refusal(log: &[u8], words: &[u32], positions: &[u32], worker: u32) -> u32
+    ensures answer { λ r. ⌜ r ≡ stepRefusal (given (now (log .entry))) (now (words .entry)) (now (positions .entry)) worker ⌝ }
 {
-    if log::size_of(log) <= w {
+    let refusal = accept::accept(log);
+    if refusal != 0 {
+        return refusal;
+    }
+    lent::or_else(
+        causality::refusals::worker_refusal(log, worker),
+        state_refusal(log, words, positions, 0),
+    )
+}
+
+// The answer of a step of worker w that is not refused by 1 to 11, 14 or 16.
+fn answer(log: &[u8], words: &[u32], positions: &[u32], w: usize) -> u32
+    requires { ⌜ (logRefusal (now log) ≡ 0) × IsState (workersOf (now log)) (now words) (now positions) ⌝ }
+    ensures answer { λ r. ⌜ r ≡ machineAnswer (workersOf (now (log .entry))) (now (words .entry)) (now (positions .entry)) w ⌝ }
+{
+    if log::worker_count(log) <= w {
         return 12;
     }
     let position = positions[w];
-    if plan[3 * w] <= position {
+    if words[3 * w] <= position {
         return 21;
     }
     let e = log::event_at(log, w, position + 1);
@@ -85,33 +96,41 @@ fn answer(log: &[u8], plan: &[u32], positions: &[u32], w: usize) -> u32
     if positions[peer] < e.send {
         return 22;
     }
-    if e.send <= plan[3 * peer + 1] {
+    if e.send <= words[3 * peer + 1] {
         return 23;
     }
     0
 }
 
-// Such a step: its answer, and the position word of a done one.
-fn advance(log: &[u8], plan: &[u32], positions: &mut [u32], w: usize) -> u32
-    requires { ⌜ IsState (now log) (now plan) (now positions) ⌝ }
-    ensures { λ r. ⌜ r ≡ machineAnswer (now (log .entry)) (now (plan .entry)) (now (positions .entry)) w ⌝ }
-    ensures { λ r. ⌜ now (positions .exit) ≡ machinePositions (now (log .entry)) (now (plan .entry)) (now (positions .entry)) w ⌝ }
+// The position of worker w after a done step from a position at or after its start.
+fn next_position(words: &[u32], positions: &[u32], w: usize) -> u32
+    requires { ⌜ (w < length (now positions)) × (3 * w + 3 ≤ length (now words)) × (at (now words) (3 * w + 1) ≤ at (now positions) w) × (at (now positions) w ≤ maxEvents) ⌝ }
+    ensures answer { λ r. ⌜ r ≡ at (now (positions .entry)) w + 1 ⌝ }
 {
-    let number = answer(log, plan, positions, w);
-    if number == 0 {
-        positions[w] += 1;
+    positions[w] + 1
+}
+
+// Such a step: its answer, and the position word of a done one.
+fn advance(log: &[u8], words: &[u32], positions: &mut [u32], w: usize) -> u32
+    requires { ⌜ (logRefusal (now log) ≡ 0) × IsState (workersOf (now log)) (now words) (now positions) ⌝ }
+    ensures answer { λ r. ⌜ r ≡ machineAnswer (workersOf (now (log .entry))) (now (words .entry)) (now (positions .entry)) w ⌝ }
+    ensures positions { λ _. ⌜ now (positions .exit) ≡ machineMoved (workersOf (now (log .entry))) (now (words .entry)) (now (positions .entry)) w ⌝ }
+{
+    let refusal = answer(log, words, positions, w);
+    if refusal == 0 {
+        positions[w] = next_position(words, positions, w);
     }
-    number
+    refusal
 }
 
 // One step of a worker: 0 and one position more, or the number of its refusal and no change.
-pub fn step(log: &[u8], plan: &[u32], positions: &mut [u32], worker: u32) -> u32
-    ensures { λ r. ⌜ r ≡ stepAnswer (now (log .entry)) (now (plan .entry)) (now (positions .entry)) worker ⌝ }
-    ensures { λ r. ⌜ now (positions .exit) ≡ stepPositions (now (log .entry)) (now (plan .entry)) (now (positions .entry)) worker ⌝ }
+pub fn step(log: &[u8], words: &[u32], positions: &mut [u32], worker: u32) -> u32
+    ensures answer { λ r. ⌜ r ≡ stepAnswer (given (now (log .entry))) (now (words .entry)) (now (positions .entry)) worker ⌝ }
+    ensures positions { λ _. ⌜ now (positions .exit) ≡ stepAfter (given (now (log .entry))) (now (words .entry)) (now (positions .entry)) worker ⌝ }
 {
-    let number = step_refusal(log, plan, positions, worker);
-    if number != 0 {
-        return number;
+    let refusal = step_refusal(log, words, positions, worker);
+    if refusal != 0 {
+        return refusal;
     }
-    advance(log, plan, positions, worker as usize)
+    advance(log, words, positions, worker as usize)
 }
