@@ -1,2 +1,4 @@
-pub mod Exported
 pub mod TubeTable
+pub mod Answered
+pub mod StepWords
+pub mod Restored

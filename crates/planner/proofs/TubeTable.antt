@@ -2,39 +2,47 @@
 -- Assumes nothing.
 use mathlib.Core.Path.{_≡_, refl}
 use mathlib.Core.List.{[], _∷_}
+use lib.ListN.{set}
 use Rattle.ranges.specs.Fold.{anyBelow, maxBelow, sumBelow, firstBelow, lastBelow, tabulate, sweep}
 use Rattle.bytes_le.specs.Little.{le}
-use Rattle.log.specs.Model.{Log, size, worker, roleOf, count, eventOf, checkpoints, checkpointOf, isSend, isUnlogged, isLogged, isReceive}
-use Rattle.log.specs.Layout.{field, section, eventSection, checkpointSection, eventRecord, checkpointRecord, workerOf, logOf}
+use Rattle.log.specs.Model.{Workers, workerCount, worker, roleOf, eventCount, eventOf, checkpointCount, checkpointOf, isSend, isUnlogged, isLogged, isReceive}
+use Rattle.log.specs.Layout.{field, section, eventSection, checkpointSection, eventRecord, checkpointRecord, workerOf, workersOf}
 use Rattle.accept.specs.Tube.{tube, tubeLog}
-use Rattle.accept.proofs.Tube.{tube-model}
+use Rattle.accept.proofs.Tube.{tube-workers}
 use Rattle.causality.specs.Cut.{namedOf, component, vector, lacks, workerLacks, isConsistent}
 use Rattle.causality.specs.Figure2.{turnIf, turn, visit, visitAt, beginning, figure2}
 use Rattle.causality.specs.Upper.{happened, upperAt, upperLine}
 use Rattle.restore.specs.Choice.{mayChoose}
-use Rattle.restore.specs.Plan.{loses, workerLoses, lost, usable, indexIf, loweredAt, lowered, planStarts}
+use Rattle.restore.specs.Plan.{loses, workerLoses, someLoses, usable, indexIf, rolledBackAt, rolledBack, planStarts}
 use Rattle.restore.specs.Cost.{replayed, eventsOf, eventUnits, workerUnits, unitsOf, builtIn}
-use Rattle.restore.specs.Covering.{isSet, missing, indexOf, setIndex, unlogged, workerUnlogged, coveringSet}
+use Rattle.restore.specs.Covering.{isSet, withoutSet, indexOf, setIndex, uncovered, workerUncovered, coveringSet}
 use Rattle.replay.specs.Machine.{receiveAnswer, eventAnswer, answerOf}
 use Rattle.planner.specs.Tube.{tubeLogged, TubeTable}
 
--- the tube log of tubeLogged: event 2 of worker 1 is of kind 3, all else is as in tubeLog
-abbrev loggedLog : Log
-loggedLog =
-    record {
-      form = 1;
-      workers =
-          record { role = 3; events = record { kind = 2; peer = 2; send = 1; stamp = 2 } ∷ record { kind = 2; peer = 1; send = 3; stamp = 5 } ∷ record { kind = 1; peer = 1; send = 0; stamp = 6 } ∷ []; checkpoints = record { index = 1; identifier = 1 } ∷ [] } ∷
-          record { role = 1; events = record { kind = 1; peer = 2; send = 0; stamp = 1 } ∷ record { kind = 3; peer = 2; send = 2; stamp = 3 } ∷ record { kind = 1; peer = 0; send = 0; stamp = 4 } ∷ record { kind = 2; peer = 0; send = 3; stamp = 7 } ∷ []; checkpoints = record { index = 1; identifier = 1 } ∷ [] } ∷
-          record { role = 0; events = record { kind = 1; peer = 0; send = 0; stamp = 1 } ∷ record { kind = 1; peer = 1; send = 0; stamp = 2 } ∷ record { kind = 2; peer = 1; send = 1; stamp = 3 } ∷ []; checkpoints = record { index = 2; identifier = 1 } ∷ [] } ∷ [];
-    }
+-- the workers of tubeLogged: event 2 of worker 1 is of kind 3, all else is as in tubeLog
+abbrev logged : Workers
+logged =
+    set (tubeLog .workers) 1
+    (record {
+      role = 1;
+      events =
+          record { kind = 1; peer = 2; spare = 0; send = 0; stamp = 1 } ∷
+          record { kind = 3; peer = 2; spare = 0; send = 2; stamp = 3 } ∷
+          record { kind = 1; peer = 0; spare = 0; send = 0; stamp = 4 } ∷
+          record { kind = 2; peer = 0; spare = 0; send = 3; stamp = 7 } ∷ [];
+      checkpoints = record { index = 1; identifier = 1 } ∷ [];
+    })
 
-logged-model : logOf tubeLogged ≡ loggedLog
-unfolding le tabulate field section eventSection checkpointSection eventRecord checkpointRecord workerOf logOf
+logged-model : workersOf tubeLogged ≡ logged
+unfolding le tabulate field section eventSection checkpointSection eventRecord checkpointRecord workerOf workersOf
 logged-model = refl
 
-computed : TubeTable tubeLog loggedLog
-unfolding anyBelow maxBelow sumBelow firstBelow lastBelow tabulate sweep size worker roleOf count eventOf checkpoints checkpointOf isSend isUnlogged isLogged isReceive namedOf component vector lacks workerLacks isConsistent turnIf turn visit visitAt beginning figure2 happened upperAt upperLine mayChoose loses workerLoses lost usable indexIf loweredAt lowered planStarts replayed eventsOf eventUnits workerUnits unitsOf builtIn isSet missing indexOf setIndex unlogged workerUnlogged coveringSet receiveAnswer eventAnswer answerOf
+computed : TubeTable (tubeLog .workers) logged
+unfolding anyBelow maxBelow sumBelow firstBelow lastBelow tabulate sweep workerCount worker roleOf eventCount eventOf checkpointCount checkpointOf
+    isSend isUnlogged isLogged isReceive namedOf component vector lacks workerLacks isConsistent turnIf turn visit visitAt beginning figure2
+    happened upperAt upperLine mayChoose loses workerLoses someLoses usable indexIf rolledBackAt rolledBack planStarts replayed eventsOf
+    eventUnits workerUnits unitsOf builtIn isSet withoutSet indexOf setIndex uncovered workerUncovered coveringSet receiveAnswer eventAnswer
+    answerOf
 computed =
     record {
       t1 = refl;
@@ -50,5 +58,5 @@ computed =
     }
 
 -- T1 to T10, together
-pub tube-table : TubeTable (logOf tube) (logOf tubeLogged)
-tube-table = rw (tube-model, logged-model) computed
+pub tube-table : TubeTable (workersOf tube) (workersOf tubeLogged)
+tube-table = rw (tube-workers, logged-model) computed

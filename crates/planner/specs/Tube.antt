@@ -5,7 +5,7 @@ use mathlib.Core.Bool.{true, false}
 use mathlib.Core.List.{List, [], _∷_}
 use Prim.Native.Nat.{ℕ}
 use lib.ListN.{set}
-use Rattle.log.specs.Model.{Log}
+use Rattle.log.specs.Model.{Workers}
 use Rattle.accept.specs.Tube.{tube}
 use Rattle.causality.specs.Cut.{vector, isConsistent}
 use Rattle.causality.specs.Figure2.{figure2, lowerCut}
@@ -20,10 +20,10 @@ abbrev pub tubeLogged : List ℕ
 tubeLogged = set tube 124 3
 
 -- the starts of the plan of event 2 of worker 0
-abbrev pub tubeStarts : Log → List ℕ
+abbrev pub tubeStarts : Workers → List ℕ
 tubeStarts log = planStarts log (lowerCut log 0 2)
 
-pub record TubeTable (log logged : Log) : Type 0 where
+pub record TubeTable (log logged : Workers) : Type 0 where
   -- "vector of 0/2 is (2, 3, 1)"; "of 1/3 is (0, 3, 2)"; "of 2/2 is (0, 0, 2)"
   pub t1 : vector log 0 2 ≡ 2 ∷ 3 ∷ 1 ∷ []
   pub t2 : vector log 1 3 ≡ 0 ∷ 3 ∷ 2 ∷ []

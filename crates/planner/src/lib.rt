@@ -1,24 +1,34 @@
 // The calls of the dashboard, on numbers and slices.
 
+mod stepping;
+
+use causality::Cut;
 use causality::Test;
+use restore::Totals;
 ghost use mathlib.Core.Path.{_≡_};
 ghost use mathlib.Core.List.{[], _∷_};
-ghost use Prim.Native.Nat.{_≤_};
-ghost use lib.ListN.{length};
-ghost use Rattle.log.specs.Layout.{logOf};
-ghost use Rattle.accept.specs.Refusal.{orElse, refusal};
+ghost use Prim.Native.Nat.{_+_, _*_, _≤_};
+ghost use lib.ListN.{length, take};
+ghost use Rattle.lent.specs.Lent.{orElse, wordsRefusal, onto, unlessRefused, KeptIfRefused};
+ghost use Rattle.log.specs.Layout.{workersOf};
+ghost use Rattle.log.specs.Model.{workerCount};
+ghost use Rattle.accept.specs.Refusal.{logRefusal, given};
+ghost use Rattle.causality.specs.Cut.{vector, isConsistent};
 ghost use Rattle.causality.specs.Figure2.{lowerCut};
-ghost use Rattle.causality.specs.Lent.{unlessRefused, onto};
-ghost use Rattle.causality.specs.Calls.{lineRefusal, vectorWords, upperWords};
-ghost use Rattle.restore.specs.Plan.{planWords};
-ghost use Rattle.restore.specs.Calls.{KeptIfRefused};
-ghost use Rattle.replay.specs.Calls.{stepAnswer, stepPositions, stepsRefusal, stepsAnswers, stepsPositions};
-ghost use Rattle.planner.specs.Calls.{lowerRefused, lowerTotals, planRefused, planTotals, wordOf, testRefused, testWord, coversRefused, coversWord};
+ghost use Rattle.causality.specs.Upper.{upperLine};
+ghost use Rattle.causality.specs.Refusals.{lineRefusal, searchRefusal, testRefusal};
+ghost use Rattle.causality.specs.Calls.{foundCut, cutTotals};
+ghost use Rattle.restore.specs.Covering.{coveringSet};
+ghost use Rattle.restore.specs.Calls.{foundPlan, planTotals};
+ghost use Rattle.replay.specs.Machine.{listed, answerWord, stepWords};
+ghost use Rattle.replay.specs.Calls.{stepAnswer, stepAfter, stepsRefusal, stepsAfter, machineRun};
+ghost use Rattle.replay.specs.Demand3.{Demand3};
+ghost use Rattle.planner.specs.Calls.{wordOf, restoreRefusal, plannedWords, plannedRun, plannedAfter};
 
 // 0 for an accepted log, else the number that refuses it.
 #[no_mangle]
 pub extern "C" fn log_refusal(log: &[u8]) -> u32
-    ensures { λ r. ⌜ r ≡ refusal (now (log .entry)) ⌝ }
+    ensures answer { λ r. ⌜ r ≡ logRefusal (now (log .entry)) ⌝ }
 {
     accept::accept(log)
 }
@@ -26,7 +36,8 @@ pub extern "C" fn log_refusal(log: &[u8]) -> u32
 // The dependency vector of an event.
 #[no_mangle]
 pub extern "C" fn vector(log: &[u8], worker: u32, event: u32, words: &mut [u32]) -> u32
-    ensures { λ r. ⌜ (r ≡ lineRefusal (now (log .entry)) worker event (length (now (words .entry)))) × (now (words .exit) ≡ vectorWords (now (log .entry)) worker event (now (words .entry))) ⌝ }
+    ensures answer { λ r. ⌜ r ≡ lineRefusal (given (now (log .entry))) worker event 1 (length (now (words .entry))) 0 ⌝ }
+    ensures words { λ r. ⌜ now (words .exit) ≡ unlessRefused r (vector (workersOf (now (log .entry))) worker event) (now (words .entry)) ⌝ }
 {
     causality::vector(log, worker, event, words)
 }
@@ -34,29 +45,30 @@ pub extern "C" fn vector(log: &[u8], worker: u32, event: u32, words: &mut [u32])
 // The upper line of a breakpoint event.
 #[no_mangle]
 pub extern "C" fn upper_line(log: &[u8], worker: u32, event: u32, words: &mut [u32]) -> u32
-    ensures { λ r. ⌜ (r ≡ lineRefusal (now (log .entry)) worker event (length (now (words .entry)))) × (now (words .exit) ≡ upperWords (now (log .entry)) worker event (now (words .entry))) ⌝ }
+    ensures answer { λ r. ⌜ r ≡ lineRefusal (given (now (log .entry))) worker event 1 (length (now (words .entry))) 0 ⌝ }
+    ensures words { λ r. ⌜ now (words .exit) ≡ unlessRefused r (upperLine (workersOf (now (log .entry))) worker event) (now (words .entry)) ⌝ }
 {
     causality::upper_line(log, worker, event, words)
 }
 
-// Writes two totals.
-fn write_two(totals: &mut [u64], first: u64, second: u64)
+// Writes what the lower cut returns.
+fn write_cut(totals: &mut [u64], cut: Cut)
     requires { ⌜ 2 ≤ length (now totals) ⌝ }
-    ensures { λ _. ⌜ now (totals .exit) ≡ onto (first ∷ second ∷ []) (now (totals .entry)) ⌝ }
+    ensures totals { λ _. ⌜ now (totals .exit) ≡ onto (cutTotals cut) (now (totals .entry)) ⌝ }
 {
-    totals[0] = first;
-    totals[1] = second;
+    totals[0] = cut.visits;
+    totals[1] = cut.workers;
 }
 
-// Writes four totals.
-fn write_four(totals: &mut [u64], first: u64, second: u64, third: u64, fourth: u64)
+// Writes what the plan returns.
+fn write_plan(totals: &mut [u64], found: Totals)
     requires { ⌜ 4 ≤ length (now totals) ⌝ }
-    ensures { λ _. ⌜ now (totals .exit) ≡ onto (first ∷ second ∷ third ∷ fourth ∷ []) (now (totals .entry)) ⌝ }
+    ensures totals { λ _. ⌜ now (totals .exit) ≡ onto (planTotals found) (now (totals .entry)) ⌝ }
 {
-    totals[0] = first;
-    totals[1] = second;
-    totals[2] = third;
-    totals[3] = fourth;
+    totals[0] = found.visits;
+    totals[1] = found.events;
+    totals[2] = found.units;
+    totals[3] = found.workers;
 }
 
 // The lower cut of a breakpoint event; the totals are its visits and its workers word.
@@ -69,25 +81,20 @@ pub extern "C" fn lower_cut(
     scratch: &mut [u32],
     totals: &mut [u64],
 ) -> u32
-    ensures { λ r. ⌜ r ≡ lowerRefused (now (log .entry)) worker event (length (now (words .entry))) (length (now (scratch .entry))) (length (now (totals .entry))) ⌝ }
-    ensures { λ r. ⌜ now (words .exit) ≡ unlessRefused r (lowerCut (logOf (now (log .entry))) worker event) (now (words .entry)) ⌝ }
-    ensures { λ r. ⌜ now (totals .exit) ≡ unlessRefused r (lowerTotals (now (log .entry)) worker event) (now (totals .entry)) ⌝ }
-    ensures { λ r. ⌜ now (scratch .exit) ≡ now (scratch .entry) ⌝ }
+    ensures answer { λ r. ⌜ r ≡ searchRefusal (given (now (log .entry))) worker event 1 (length (now (words .entry)))
+        (wordsRefusal (length (now (totals .entry))) 2) (length (now (scratch .entry))) ⌝ }
+    ensures words { λ r. ⌜ now (words .exit) ≡ unlessRefused r (lowerCut (workersOf (now (log .entry))) worker event) (now (words .entry)) ⌝ }
+    ensures totals { λ r. ⌜ now (totals .exit) ≡ unlessRefused r (cutTotals (foundCut (workersOf (now (log .entry))) worker event)) (now (totals .entry)) ⌝ }
+    ensures kept { λ r. ⌜ now (scratch .exit) ≡ now (scratch .entry) ⌝ }
 {
-    if totals.len() < 2 {
-        let number = causality::line_refusal(log, worker, event, words.len());
-        if number != 0 {
-            return number;
-        }
-        return 14;
+    let others = lent::words_refusal(totals.len(), 2);
+    let found = causality::lower_cut(log, worker, event, others, words, scratch);
+    let refusal = found.refusal;
+    if refusal != 0 {
+        return refusal;
     }
-    let found = causality::lower_cut(log, worker, event, words, scratch);
-    let cut_refused = found.refusal;
-    if cut_refused != 0 {
-        return cut_refused;
-    }
-    write_two(totals, found.visits, found.workers);
-    cut_refused
+    write_cut(totals, found);
+    0
 }
 
 // The plan of a breakpoint event; the totals are its visits, events, units and workers word.
@@ -100,35 +107,24 @@ pub extern "C" fn plan(
     scratch: &mut [u32],
     totals: &mut [u64],
 ) -> u32
-    ensures { λ r. ⌜ r ≡ planRefused (now (log .entry)) worker event (length (now (words .entry))) (length (now (scratch .entry))) (length (now (totals .entry))) ⌝ }
-    ensures { λ r. ⌜ now (words .exit) ≡ unlessRefused r (planWords (logOf (now (log .entry))) (lowerCut (logOf (now (log .entry))) worker event)) (now (words .entry)) ⌝ }
-    ensures { λ r. ⌜ now (totals .exit) ≡ unlessRefused r (planTotals (now (log .entry)) worker event) (now (totals .entry)) ⌝ }
-    ensures { λ r. ⌜ KeptIfRefused r (now (scratch .entry)) (now (scratch .exit)) ⌝ }
+    ensures answer { λ r. ⌜ r ≡ searchRefusal (given (now (log .entry))) worker event 3 (length (now (words .entry)))
+        (wordsRefusal (length (now (totals .entry))) 4) (length (now (scratch .entry))) ⌝ }
+    ensures words { λ r. ⌜ now (words .exit) ≡ unlessRefused r (plannedWords (workersOf (now (log .entry))) worker event) (now (words .entry)) ⌝ }
+    ensures totals { λ r. ⌜ now (totals .exit) ≡ unlessRefused r (planTotals (foundPlan (workersOf (now (log .entry))) worker event)) (now (totals .entry)) ⌝ }
+    ensures kept { λ r. ⌜ KeptIfRefused r (now (scratch .entry)) (now (scratch .exit)) ⌝ }
 {
-    if totals.len() < 4 {
-        let number = causality::breakpoint_refusal(log, worker, event);
-        if number != 0 {
-            return number;
-        }
-        return 14;
+    let others = lent::words_refusal(totals.len(), 4);
+    let found = restore::plan(log, worker, event, others, words, scratch);
+    let refusal = found.refusal;
+    if refusal != 0 {
+        return refusal;
     }
-    let found = restore::plan(log, worker, event, words, scratch);
-    let plan_refused = found.refusal;
-    if plan_refused != 0 {
-        return plan_refused;
-    }
-    write_four(
-        totals,
-        found.visits,
-        found.events,
-        found.units,
-        found.workers,
-    );
-    plan_refused
+    write_plan(totals, found);
+    0
 }
 
 fn word_of(b: bool) -> u32
-    ensures { λ r. ⌜ r ≡ wordOf b ⌝ }
+    ensures answer { λ r. ⌜ r ≡ wordOf b ⌝ }
 {
     if b {
         return 1;
@@ -136,75 +132,117 @@ fn word_of(b: bool) -> u32
     0
 }
 
-// Refusals 1 to 11, and 14.
-fn no_answer_word(log: &[u8]) -> u32
-    ensures { λ r. ⌜ r ≡ orElse (refusal (now (log .entry))) 14 ⌝ }
-{
-    let number = accept::accept(log);
-    if number != 0 {
-        return number;
-    }
-    14
-}
-
 // Writes what a test found, where it was not refused.
 fn write_answer(test: Test, answer: &mut [u32]) -> u32
-    requires { ⌜ 1 ≤ length (now answer) ⌝ }
-    ensures { λ r. ⌜ (r ≡ test .refusal) × (now (answer .exit) ≡ unlessRefused (test .refusal) (wordOf (test .yes) ∷ []) (now (answer .entry))) ⌝ }
+    requires { ⌜ (test .refusal ≡ 0 → 1 ≤ length (now answer)) ⌝ }
+    ensures answer { λ r. ⌜ r ≡ test .refusal ⌝ }
+    ensures word { λ r. ⌜ now (answer .exit) ≡ unlessRefused (test .refusal) (wordOf (test .yes) ∷ []) (now (answer .entry)) ⌝ }
 {
-    let test_refused = test.refusal;
-    if test_refused != 0 {
-        return test_refused;
+    let refusal = test.refusal;
+    if refusal != 0 {
+        return refusal;
     }
     answer[0] = word_of(test.yes);
-    test_refused
+    0
 }
 
 // The cut test; the answer is 1 where the first n words are a consistent cut, else 0.
 #[no_mangle]
 pub extern "C" fn cut_test(log: &[u8], words: &[u32], answer: &mut [u32]) -> u32
-    ensures { λ r. ⌜ r ≡ testRefused (now (log .entry)) (now (words .entry)) (length (now (answer .entry))) ⌝ }
-    ensures { λ r. ⌜ now (answer .exit) ≡ unlessRefused r (testWord (now (log .entry)) (now (words .entry))) (now (answer .entry)) ⌝ }
+    ensures answer { λ r. ⌜ r ≡ testRefusal (given (now (log .entry))) (now (words .entry)) (length (now (words .entry))) (wordsRefusal (length (now (answer .entry))) 1) ⌝ }
+    ensures word { λ r. ⌜ now (answer .exit) ≡ unlessRefused r
+        (wordOf (isConsistent (workersOf (now (log .entry))) (take (workerCount (workersOf (now (log .entry)))) (now (words .entry)))) ∷ []) (now (answer .entry)) ⌝ }
 {
-    if answer.len() < 1 {
-        return no_answer_word(log);
-    }
-    write_answer(causality::cut_test(log, words), answer)
+    let others = lent::words_refusal(answer.len(), 1);
+    write_answer(causality::cut_test(log, words, others), answer)
 }
 
 // Whether the checkpoints with this identifier are a covering set; the answer is 1 where they are, else 0.
 #[no_mangle]
 pub extern "C" fn covers(log: &[u8], identifier: u32, answer: &mut [u32]) -> u32
-    ensures { λ r. ⌜ r ≡ coversRefused (now (log .entry)) (length (now (answer .entry))) ⌝ }
-    ensures { λ r. ⌜ now (answer .exit) ≡ unlessRefused r (coversWord (now (log .entry)) identifier) (now (answer .entry)) ⌝ }
+    ensures answer { λ r. ⌜ r ≡ orElse (logRefusal (now (log .entry))) (wordsRefusal (length (now (answer .entry))) 1) ⌝ }
+    ensures word { λ r. ⌜ now (answer .exit) ≡ unlessRefused r (wordOf (coveringSet (workersOf (now (log .entry))) identifier) ∷ []) (now (answer .entry)) ⌝ }
 {
-    if answer.len() < 1 {
-        return no_answer_word(log);
-    }
-    write_answer(restore::covers(log, identifier), answer)
+    let others = lent::words_refusal(answer.len(), 1);
+    write_answer(restore::covers(log, identifier, others), answer)
 }
 
-// One step of a worker.
+// One step of a worker, over the words of a plan.
 #[no_mangle]
-pub extern "C" fn step(log: &[u8], plan: &[u32], positions: &mut [u32], worker: u32) -> u32
-    ensures { λ r. ⌜ r ≡ stepAnswer (now (log .entry)) (now (plan .entry)) (now (positions .entry)) worker ⌝ }
-    ensures { λ r. ⌜ now (positions .exit) ≡ stepPositions (now (log .entry)) (now (plan .entry)) (now (positions .entry)) worker ⌝ }
+pub extern "C" fn step(log: &[u8], words: &[u32], positions: &mut [u32], worker: u32) -> u32
+    ensures answer { λ r. ⌜ r ≡ stepAnswer (given (now (log .entry))) (now (words .entry)) (now (positions .entry)) worker ⌝ }
+    ensures positions { λ _. ⌜ now (positions .exit) ≡ stepAfter (given (now (log .entry))) (now (words .entry)) (now (positions .entry)) worker ⌝ }
 {
-    replay::step(log, plan, positions, worker)
+    replay::step(log, words, positions, worker)
 }
 
 // A step for each number of a list.
 #[no_mangle]
 pub extern "C" fn steps(
     log: &[u8],
-    plan: &[u32],
+    words: &[u32],
     positions: &mut [u32],
     workers: &[u32],
     answers: &mut [u32],
 ) -> u32
-    ensures { λ r. ⌜ r ≡ stepsRefusal (now (log .entry)) (now (plan .entry)) (now (positions .entry)) (length (now (workers .entry))) (length (now (answers .entry))) ⌝ }
-    ensures { λ r. ⌜ now (positions .exit) ≡ stepsPositions (now (log .entry)) (now (plan .entry)) (now (positions .entry)) (now (workers .entry)) (length (now (answers .entry))) ⌝ }
-    ensures { λ r. ⌜ now (answers .exit) ≡ stepsAnswers (now (log .entry)) (now (plan .entry)) (now (positions .entry)) (now (workers .entry)) (now (answers .entry)) ⌝ }
+    ensures answer { λ r. ⌜ r ≡ stepsRefusal (given (now (log .entry))) (now (words .entry)) (now (positions .entry))
+        (wordsRefusal (length (now (answers .entry))) (length (now (workers .entry)))) ⌝ }
+    ensures positions { λ r. ⌜ now (positions .exit) ≡ stepsAfter r (workersOf (now (log .entry))) (now (words .entry)) (now (positions .entry)) (now (workers .entry)) ⌝ }
+    ensures answers { λ r. ⌜ now (answers .exit) ≡ unlessRefused r
+        (listed answerWord (machineRun (workersOf (now (log .entry))) (now (words .entry)) (now (positions .entry)) (now (workers .entry)))) (now (answers .entry)) ⌝ }
 {
-    replay::list::steps(log, plan, positions, workers, answers)
+    replay::list::steps(log, words, positions, workers, answers)
+}
+
+// The plan of a breakpoint event, and one call of `step` for each number of a list from the planned starts: demand 3. For each call its
+// answer and then the n positions stand in `steps`.
+#[no_mangle]
+pub extern "C" fn restore_and_replay(
+    log: &[u8],
+    worker: u32,
+    event: u32,
+    workers: &[u32],
+    words: &mut [u32],
+    scratch: &mut [u32],
+    positions: &mut [u32],
+    steps: &mut [u32],
+    totals: &mut [u64],
+) -> u32
+    ensures answer { λ r. ⌜ r ≡ restoreRefusal (given (now (log .entry))) worker event (length (now (workers .entry))) (length (now (words .entry)))
+        (length (now (scratch .entry))) (length (now (positions .entry))) (length (now (steps .entry))) (length (now (totals .entry))) ⌝ }
+    ensures words { λ r. ⌜ now (words .exit) ≡ unlessRefused r (plannedWords (workersOf (now (log .entry))) worker event) (now (words .entry)) ⌝ }
+    ensures totals { λ r. ⌜ now (totals .exit) ≡ unlessRefused r (planTotals (foundPlan (workersOf (now (log .entry))) worker event)) (now (totals .entry)) ⌝ }
+    ensures kept { λ r. ⌜ KeptIfRefused r (now (scratch .entry)) (now (scratch .exit)) ⌝ }
+    ensures positions { λ r. ⌜ now (positions .exit) ≡ unlessRefused r (plannedAfter (workersOf (now (log .entry))) worker event (now (workers .entry))) (now (positions .entry)) ⌝ }
+    ensures steps { λ r. ⌜ now (steps .exit) ≡ unlessRefused r (listed stepWords (plannedRun (workersOf (now (log .entry))) worker event (now (workers .entry)))) (now (steps .entry)) ⌝ }
+    ensures demand3 { λ r. ⌜ (r ≡ 0 → Demand3 (workersOf (now (log .entry))) worker event (now (workers .entry)) (take 4 (now (totals .exit)))
+        (take (3 * workerCount (workersOf (now (log .entry)))) (now (words .exit))) (take (workerCount (workersOf (now (log .entry)))) (now (positions .exit)))
+        (take (length (now (workers .entry)) * (workerCount (workersOf (now (log .entry))) + 1)) (now (steps .exit)))) ⌝ }
+{
+    let refusal = stepping::restore_refusal(
+        log,
+        worker,
+        event,
+        workers.len(),
+        words.len(),
+        scratch.len(),
+        positions.len(),
+        steps.len(),
+        totals.len(),
+    );
+    if refusal != 0 {
+        return refusal;
+    }
+    plan(log, worker, event, words, scratch, totals);
+    let n = log::worker_count(log);
+    let planned = 3 * n;
+    let stepped = workers.len() * (n + 1);
+    stepping::replay_words(
+        log,
+        &words[..planned],
+        workers,
+        &mut positions[..n],
+        &mut steps[..stepped],
+    );
+    0
 }

@@ -1,0 +1,104 @@
+-- The plan with a list of step calls: what it may use where it is not refused, and that demand 3 holds of what it leaves.
+-- Assumes nothing.
+use mathlib.Core.Path.{_≡_, refl, sym, _∙_, ap}
+use mathlib.Core.List.{List, _++_}
+use Prim.Native.Nat.{ℕ, _+_, _*_, _≤_}
+use native.Mathlib.Omega.{arith}
+use lib.ListN.{length, take, drop}
+use Rattle.lent.specs.Lent.{orElse, wordsRefusal, onto, unlessRefused}
+use Rattle.lent.proofs.Lent.{or-else-zero, words-ok, put, written, named-words}
+use Rattle.log.specs.Layout.{workersOf}
+use Rattle.log.specs.Model.{Workers, workerCount}
+use Rattle.accept.specs.Refusal.{given}
+use Rattle.accept.specs.WellFormed.{WellFormed}
+use Rattle.causality.specs.Happened.{IsEvent}
+use Rattle.causality.specs.Figure2.{lowerCut}
+use Rattle.causality.specs.Refusals.{searchRefusal}
+use Rattle.causality.proofs.Allowed.{SearchLent, search-ok}
+use Rattle.restore.specs.Calls.{foundPlan, planTotals}
+use Rattle.restore.specs.Plan.{planStarts}
+use Rattle.restore.specs.Words.{startsIn}
+use Rattle.restore.proofs.Written.{plan-long}
+use Rattle.replay.specs.Machine.{listed, stepWords}
+use Rattle.replay.specs.Calls.{machineRun, machineAfter}
+use Rattle.replay.specs.Inner.State.{IsState}
+use Rattle.replay.specs.Demand3.{Demand3}
+use Rattle.replay.proofs.Demand.{starts-long, plan-held-starts, after-long, demand-3}
+use Rattle.replay.proofs.Call.{plan-state}
+use Rattle.replay.proofs.Storing.{listed-length}
+use Rattle.planner.specs.Calls.{roomRefusal, restoreRefusal, plannedWords, plannedRun, plannedAfter}
+use Rattle.planner.proofs.StepWords.{step-wide}
+
+-- what the call may use where it is not refused; the call of `plan` is then not refused either
+pub record RestoreLent (s : List ℕ) (w e calls words scratch positions steps totals : ℕ) : Type 0 where
+  pub search : SearchLent s w e 3 words (roomRefusal (workersOf s) calls positions steps totals) scratch
+  pub planned : searchRefusal (given s) w e 3 words (wordsRefusal totals 4) scratch ≡ 0
+  pub placed : workerCount (workersOf s) ≤ positions
+  pub stepped : calls * (workerCount (workersOf s) + 1) ≤ steps
+
+pub restore-ok : {s : List ℕ} {w e calls words scratch positions steps totals r : ℕ} → r ≡ restoreRefusal (given s) w e calls words scratch positions steps totals → r ≡ 0
+    → RestoreLent s w e calls words scratch positions steps totals
+unfolding restoreRefusal roomRefusal
+restore-ok {s} {w} {e} {calls} {words} {scratch} {positions} {steps} {totals} found none =
+    let n = workerCount (workersOf s) in
+    let search = search-ok found none in
+    let room = search .line .rest in
+    let first = or-else-zero (wordsRefusal totals 4) _ room in
+    let second = or-else-zero (wordsRefusal positions n) (wordsRefusal steps (calls * (n + 1))) (first .1) in
+    record {
+      search = search;
+      planned = rw (first .0) (rw (room) at (sym found ∙ none));
+      placed = words-ok _ _ (second .0);
+      stepped = words-ok _ _ (second .1);
+    }
+
+module _ (log : Workers) (ok : WellFormed log) (i e : ℕ) (event : IsEvent log i e) where
+  -- the plan words in front of those lent, after the call of `plan`
+  pub front-words : (words words′ : List ℕ) (r n : ℕ) → n ≡ workerCount log → r ≡ 0 → words′ ≡ unlessRefused r (plannedWords log i e) words
+      → take (3 * n) words′ ≡ plannedWords log i e
+  front-words words words′ r n size none is =
+      rw (size, is ∙ sym (put r _ _ none)) (named-words _ (plannedWords log i e) words (plan-long log (lowerCut log i e)))
+
+  -- a step over them from their starts is not refused
+  pub front-state : (front : List ℕ) → front ≡ plannedWords log i e → IsState log front (startsIn log front)
+  front-state front is = rw (is, plan-held-starts log ok i e event) (plan-state log ok i e event)
+
+module _ (log : Workers) (ok : WellFormed log) (i e : ℕ) (event : IsEvent log i e) (workers : List ℕ) where
+  -- an answer and the positions for each call
+  pub steps-long : length (listed stepWords (plannedRun log i e workers)) ≡ length workers * (workerCount log + 1)
+  steps-long =
+      let starts = planStarts log (lowerCut log i e) in
+      let long : length starts ≡ workerCount log = starts-long log ok i e event in
+      rw (long) at (listed-length stepWords (length starts + 1) log (plannedWords log i e) workers starts workers (step-wide log (plannedWords log i e) starts) starts workers refl)
+
+  -- what the calls of `step` over them leave
+  module _ (front lent left : List ℕ) (n : ℕ) (is : front ≡ plannedWords log i e) (size : n ≡ workerCount log) where
+    pub front-positions : left ≡ machineAfter log front (startsIn log front) workers → left ++ drop n lent ≡ unlessRefused 0 (plannedAfter log i e workers) lent
+    front-positions stepped =
+        let from = ap (λ (p : List ℕ). machineAfter log (plannedWords log i e) p workers) (plan-held-starts log ok i e event) in
+        rw ((rw (is) at stepped) ∙ from) (written 0 n (plannedAfter log i e workers) lent refl (after-long log ok i e event workers ∙ sym size))
+
+    pub front-steps : left ≡ listed stepWords (machineRun log front (startsIn log front) workers)
+        → left ++ drop (length workers * (n + 1)) lent ≡ unlessRefused 0 (listed stepWords (plannedRun log i e workers)) lent
+    front-steps stepped =
+        let from = ap (λ (p : List ℕ). listed stepWords (machineRun log (plannedWords log i e) p workers)) (plan-held-starts log ok i e event) in
+        rw ((rw (is) at stepped) ∙ from, size) (written 0 _ (listed stepWords (plannedRun log i e workers)) lent refl steps-long)
+
+  -- demand 3 holds of the words named, of those that the call leaves
+  pub restored : (words words′ totals totals′ positions positions′ steps steps′ : List ℕ)
+      → words′ ≡ onto (plannedWords log i e) words → totals′ ≡ onto (planTotals (foundPlan log i e)) totals
+      → positions′ ≡ onto (plannedAfter log i e workers) positions → steps′ ≡ onto (listed stepWords (plannedRun log i e workers)) steps
+      → Demand3 log i e workers (take 4 totals′) (take (3 * workerCount log) words′) (take (workerCount log) positions′) (take (length workers * (workerCount log + 1)) steps′)
+  unfolding planTotals
+  restored words words′ totals totals′ positions positions′ steps steps′ a b c d =
+      rw (
+        a,
+        b,
+        c,
+        d,
+        named-words 4 (planTotals (foundPlan log i e)) totals refl,
+        named-words _ (plannedWords log i e) words (plan-long log (lowerCut log i e)),
+        named-words _ (plannedAfter log i e workers) positions (after-long log ok i e event workers),
+        named-words _ (listed stepWords (plannedRun log i e workers)) steps steps-long,
+      )
+      (demand-3 log ok i e event workers)

@@ -1,0 +1,34 @@
+-- `planner::stepping::room_refusal` meets its contract. Assumes nothing.
+use mathlib.Core.Path.{sym, _∙_}
+use Rattle.accept.proofs.Accepted.{accepted-layout}
+use Rattle.planner.specs.Calls.{roomRefusal}
+use Rattle.planner.proofs.StepWords.{room-quotient}
+use borrow.Author.Needs.{needs}
+use Rattle.planner.proofs.stepping.room_refusal.Statement.{statement}
+use Rattle.planner.proofs.stepping.room_refusal.Tie as tie
+
+worker-count-requires : tie.Need-worker-count-requires
+worker-count-requires c κs = accepted-layout _ (c .before .pre)
+
+words-refusal-requires-2 : tie.Need-words-refusal-requires-2
+words-refusal-requires-2 c κs = search needs
+
+or-else-requires-2 : tie.Need-or-else-requires-2
+or-else-requires-2 c κs = search needs
+
+returns : tie.Need-returns
+unfolding roomRefusal
+returns c =
+    rw (
+      ← c .before .before .words-refusal3 .ensures,
+      ← c .before .before .before .before .before .worker-count .ensures .0,
+      ← c .before .before .before .before .words-refusal .ensures,
+      ← room-quotient _ _ _,
+      ← c .before .before .before .words-refusal2 .ensures,
+      ← c .before .or-else .ensures,
+    )
+    (c .or-else2 .ensures)
+
+pub room-refusal-spec : {M : Type 1} → statement M
+room-refusal-spec =
+    tie.close (tie.spec worker-count-requires (λ c κs. search needs) (λ c. search needs) (λ c. search needs) words-refusal-requires-2 (λ c κs. search needs) (λ c κs. search needs) or-else-requires-2 returns)

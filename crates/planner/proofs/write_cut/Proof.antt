@@ -1,0 +1,17 @@
+-- `planner::write_cut` meets its contract. Assumes nothing.
+use Rattle.lent.proofs.Lent.{storeEach, stored-words}
+use Rattle.causality.specs.Calls.{cutTotals}
+use borrow.Author.Needs.{needs}
+use Rattle.planner.proofs.write_cut.Statement.{statement}
+use Rattle.planner.proofs.write_cut.Tie as tie
+
+same-length : tie.Need-same-length
+same-length c = search needs
+
+returns : tie.Need-returns
+unfolding cutTotals storeEach
+returns c = stored-words _ _ (c .pre)
+
+pub write-cut-spec : {M : Type 1} → statement M
+write-cut-spec =
+    tie.close (tie.spec (λ c. search needs) (λ c. search needs) same-length returns)
