@@ -7,7 +7,7 @@ use native.Mathlib.Numerals.{add-one}
 use native.Mathlib.Omega.{arith}
 use lib.ListN.{length, take, drop, set, getD, length-append, length-take}
 use lib.Seq.{length-front, length-take-le, take-nil, take-all, take-append-le, take-suc, drop-cons, append-snoc, set-append-seam}
-use Rattle.causality.specs.Lent.{onto}
+use Rattle.lent.specs.Lent.{onto}
 use Rattle.plan_text.specs.Buffer.{room, Holds, Adds}
 
 -- ---- the first n bytes of a text with one byte more: there is room for it, or not

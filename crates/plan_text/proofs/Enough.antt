@@ -1,29 +1,30 @@
 -- The words that the program lends are enough for every log, and what the calls leave in them is what they promise.
 -- Assumes nothing.
-use mathlib.Core.Path.{_≡_, refl}
-use mathlib.Core.Logic.{_≢_}
-use mathlib.Core.Bool.{Bool, true, false}
+use mathlib.Core.Path.{_≡_, refl, sym, _∙_}
+use mathlib.Core.Logic.{_≢_, ⊎-elim}
 use mathlib.Core.List.{List, append-nil}
 use Prim.Native.Nat.{ℕ, _*_, _≤_}
-use native.Mathlib.Nat.{mul-le-mul}
+use native.Mathlib.Nat.{mul-le-mul, mul-le-mul-left}
 use native.Mathlib.Omega.{arith}
-use borrow.Author.Tests.{le-ltb, eqb-true, ne-eqb}
-use lib.Dec.{eqb}
+use borrow.Author.Tests.{le-ltb, ne-eqb}
 use lib.ListN.{length, take, drop, getD}
 use lib.Seq.{take-at, drop-length}
+use Rattle.ranges.proofs.Order.{eq-or-ne}
 use Rattle.ranges.proofs.Tabulate.{length-tabulate}
 use Rattle.log.specs.Limits.{maxWorkers}
-use Rattle.log.specs.Layout.{logOf}
-use Rattle.log.specs.Model.{Log, size}
-use Rattle.accept.specs.Refusal.{orElse}
+use Rattle.log.specs.Layout.{workersOf}
+use Rattle.log.specs.Model.{Workers, workerCount}
+use Rattle.lent.proofs.Lent.{words-enough, or-else-first}
+use Rattle.lent.specs.Lent.{orElse, wordsRefusal, onto, unlessRefused}
+use Rattle.accept.specs.Refusal.{given}
 use Rattle.accept.proofs.Accepted.{well-formed}
 use Rattle.causality.specs.Figure2.{lowerCut}
-use Rattle.causality.specs.Lent.{breakpointRefusal, wordsRefusal, scratchRefusal, onto, unlessRefused}
-use Rattle.causality.specs.Calls.{lineRefusal}
+use Rattle.causality.specs.Refusals.{breakpointRefusal, scratchRefusal, lineRefusal, searchRefusal}
 use Rattle.causality.specs.Upper.{upperAt, upperLine}
-use Rattle.causality.proofs.Lent.{breakpoint-accepted}
+use Rattle.causality.proofs.Allowed.{breakpoint-ok}
 use Rattle.restore.specs.Plan.{planWords}
-use Rattle.planner.specs.Calls.{planRefused, planTotals}
+use Rattle.restore.specs.declared.Totals.{Totals}
+use Rattle.restore.specs.Calls.{foundPlan, planTotals}
 use Rattle.plan_text.specs.Text.{breakpointLine, processLines, totalsLine, foundText, refusedText, planText}
 
 -- ---- what a call that is not refused leaves in the lent words
@@ -35,46 +36,56 @@ pub all-new : (number : ℕ) (new lent : List ℕ) → number ≡ 0 → length n
 unfolding unlessRefused onto
 all-new number new lent accepted long = rw (accepted, long, drop-length lent) (append-nil new)
 
-pub upper-long : (log : Log) (w e : ℕ) → length (upperLine log w e) ≡ size log
+pub upper-long : (log : Workers) (w e : ℕ) → length (upperLine log w e) ≡ workerCount log
 unfolding upperLine
-upper-long log w e = length-tabulate (upperAt log w e) (size log)
+upper-long log w e = length-tabulate (upperAt log w e) (workerCount log)
 
-pub totals-long : (s : List ℕ) (w e : ℕ) → length (planTotals s w e) ≡ 4
+pub totals-long : (found : Totals) → length (planTotals found) ≡ 4
 unfolding planTotals
-totals-long s w e = refl
+totals-long found = refl
 
 module _ (s : List ℕ) (w e : ℕ) where
-  pub few : breakpointRefusal s w e ≡ 0 → size (logOf s) ≤ maxWorkers
-  few accepted = well-formed s (breakpoint-accepted s w e accepted) .few
+  pub few : breakpointRefusal (given s) w e ≡ 0 → workerCount (workersOf s) ≤ maxWorkers
+  few accepted = well-formed s (breakpoint-ok refl accepted .accepted) .few
 
   -- ---- refusals 14 and 15 are not given for the words of the program
-  pub plan-number : planRefused s w e (3 * maxWorkers) (maxWorkers * maxWorkers) 4 ≡ breakpointRefusal s w e
-  unfolding planRefused orElse wordsRefusal scratchRefusal
-  plan-number = go (eqb (breakpointRefusal s w e) 0) refl
-    where
-      go : (b : Bool) → eqb (breakpointRefusal s w e) 0 ≡ b → planRefused s w e (3 * maxWorkers) (maxWorkers * maxWorkers) 4 ≡ breakpointRefusal s w e
-      go true q =
-          let accepted = eqb-true (breakpointRefusal s w e) 0 q in
-          let n = few accepted in
-          rw (accepted, le-ltb (3 * maxWorkers) (3 * size (logOf s)) (omega arith), le-ltb (maxWorkers * maxWorkers) (size (logOf s) * size (logOf s)) (mul-le-mul n n))
-      go false q = rw q
+  pub line-number : (each : ℕ) → breakpointRefusal (given s) w e ≡ 0 → lineRefusal (given s) w e each (each * maxWorkers) 0 ≡ 0
+  unfolding lineRefusal orElse
+  line-number each accepted = rw (accepted, words-enough (each * maxWorkers) (each * workerCount (workersOf s)) (mul-le-mul-left each (few accepted)))
 
-  pub line-number : breakpointRefusal s w e ≡ 0 → lineRefusal s w e maxWorkers ≡ 0
-  unfolding lineRefusal orElse wordsRefusal
-  line-number accepted = rw (accepted, le-ltb maxWorkers (size (logOf s)) (few accepted))
+  planned : ℕ
+  planned = searchRefusal (given s) w e 3 (3 * maxWorkers) (wordsRefusal 4 4) (maxWorkers * maxWorkers)
+
+  plan-accepted : breakpointRefusal (given s) w e ≡ 0 → planned ≡ 0
+  unfolding planned searchRefusal scratchRefusal orElse
+  plan-accepted accepted =
+      let n = few accepted in
+      rw (
+        words-enough 4 4 (omega arith),
+        line-number 3 accepted,
+        le-ltb (maxWorkers * maxWorkers) (workerCount (workersOf s) * workerCount (workersOf s)) (mul-le-mul n n),
+      )
+
+  plan-refused : breakpointRefusal (given s) w e ≢ 0 → planned ≡ breakpointRefusal (given s) w e
+  unfolding planned searchRefusal lineRefusal
+  plan-refused refused = rw (or-else-first (breakpointRefusal (given s) w e) _ refused, or-else-first (breakpointRefusal (given s) w e) _ refused)
+
+  pub plan-number : searchRefusal (given s) w e 3 (3 * maxWorkers) (wordsRefusal 4 4) (maxWorkers * maxWorkers) ≡ breakpointRefusal (given s) w e
+  unfolding planned
+  plan-number = ⊎-elim (λ q. plan-accepted q ∙ sym q) plan-refused (eq-or-ne (breakpointRefusal (given s) w e) 0)
 
   -- ---- the text for a number that refuses, and for none
-  pub refused-text : (number : ℕ) → number ≡ breakpointRefusal s w e → number ≢ 0 → planText s w e ≡ refusedText number
+  pub refused-text : (number : ℕ) → number ≡ breakpointRefusal (given s) w e → number ≢ 0 → planText (given s) w e ≡ refusedText number
   unfolding planText
   refused-text number same refused = rw (← same, ne-eqb number 0 refused)
 
-  pub accepted-text : breakpointRefusal s w e ≡ 0 → planText s w e ≡ foundText (logOf s) w e
+  pub accepted-text : breakpointRefusal (given s) w e ≡ 0 → planText (given s) w e ≡ foundText (workersOf s) w e
   unfolding planText
   accepted-text accepted = rw accepted
 
   -- ---- the text of the words and totals
-  pub found-text : (words upper totals : List ℕ) → words ≡ planWords (logOf s) (lowerCut (logOf s) w e) → upper ≡ upperLine (logOf s) w e → totals ≡ planTotals s w e
-      → totalsLine (processLines (breakpointLine w e) (logOf s) words upper (size (logOf s))) (getD totals 0 0) (getD totals 1 0) (getD totals 2 0) (getD totals 3 0)
-      ≡ foundText (logOf s) w e
+  pub found-text : (words upper totals : List ℕ) → words ≡ planWords (workersOf s) (lowerCut (workersOf s) w e) → upper ≡ upperLine (workersOf s) w e → totals ≡ planTotals (foundPlan (workersOf s) w e)
+      → totalsLine (processLines (breakpointLine w e) (workersOf s) words upper (workerCount (workersOf s))) (getD totals 0 0) (getD totals 1 0) (getD totals 2 0) (getD totals 3 0)
+      ≡ foundText (workersOf s) w e
   unfolding foundText planTotals
   found-text words upper totals ws us ts = rw (ws, us, ts)

@@ -4,11 +4,11 @@ use mathlib.Core.Path.{_≡_}
 use mathlib.Core.List.{List}
 use Prim.Native.Nat.{ℕ, _+_}
 use native.Mathlib.Numerals.{add-one}
-use Rattle.log.specs.Model.{Log, roleOf}
+use Rattle.log.specs.Model.{Workers, roleOf}
 use Rattle.plan_text.specs.Text.{processLine, processLines}
 use Rattle.plan_text.specs.Buffer.{Adds}
 
-module _ (log : Log) (words upper : List ℕ) where
+module _ (log : Workers) (words upper : List ℕ) where
   pub lines-none : (before : List ℕ) (at : ℕ) → Adds before at before at (λ text. processLines text log words upper 0)
   unfolding processLines
   lines-none before at lent text h = h

@@ -5,21 +5,24 @@ use mathlib.Core.List.{List, [], _∷_, _++_}
 use Prim.Native.Nat.{ℕ}
 use Rattle.ranges.specs.Fold.{anyBelow, maxBelow, sumBelow, firstBelow, lastBelow, tabulate, sweep}
 use Rattle.bytes_le.specs.Little.{le}
-use Rattle.log.specs.Model.{size, worker, roleOf, count, eventOf, checkpoints, checkpointOf, isSend, isUnlogged, isLogged, isReceive}
-use Rattle.log.specs.Layout.{logOf}
-use Rattle.accept.specs.Refusal.{orElse}
+use Rattle.log.specs.Model.{workerCount, worker, roleOf, eventCount, eventOf, checkpointCount, checkpointOf, isSend, isUnlogged, isLogged, isReceive}
+use Rattle.log.specs.Layout.{workersOf}
+use Rattle.lent.specs.Lent.{orElse}
 use Rattle.accept.specs.Tube.{tube, tubeLog}
-use Rattle.accept.proofs.Tube.{tube-model, tube-accepted}
+use Rattle.accept.proofs.Tube.{tube-workers, tube-accepted}
+use Rattle.accept.specs.Refusal.{given}
+use Rattle.causality.specs.Calls.{foundCut}
+use Rattle.restore.specs.Calls.{foundPlan}
 use Rattle.causality.specs.Cut.{namedOf, component}
 use Rattle.causality.specs.Figure2.{turnIf, turn, visit, visitAt, beginning, figure2}
-use Rattle.causality.specs.Lent.{workerRefusal, eventRefusal, breakpointRefusal}
+use Rattle.causality.specs.Refusals.{workerRefusal, eventRefusal, breakpointRefusal}
 use Rattle.causality.specs.Upper.{happened, upperAt, upperLine}
 use Rattle.causality.specs.Workers.{bitOf, workersWord}
 use Rattle.restore.specs.Choice.{mayChoose}
-use Rattle.restore.specs.Plan.{loses, workerLoses, lost, usable, indexIf, loweredAt, lowered, planStarts, standsAt, identifierOf, identifierAt, planWord, planWords}
-use Rattle.restore.specs.Words.{planCut, planStart}
+use Rattle.restore.specs.Plan.{loses, workerLoses, someLoses, usable, indexIf, rolledBackAt, rolledBack, planStarts, standsAt, identifierOf, identifierAt, planWord, planWords}
+use Rattle.restore.specs.Words.{cutIn, startIn}
 use Rattle.restore.specs.Cost.{replayed, eventsOf, eventUnits, workerUnits, unitsOf, builtIn}
-use Rattle.plan_text.specs.Text.{ascii, spelled, decimal, named, fourNamed, breakpointLine, processLine, processLines, foundText, textOf}
+use Rattle.plan_text.specs.Text.{ascii, spelled, decimal, withNumber, fourNumbers, breakpointLine, processLine, processLines, foundText, textOf}
 use Rattle.plan_text.proofs.Enough.{accepted-text}
 
 abbrev tubeInput : List ℕ
@@ -33,14 +36,18 @@ tubeText =
     ++ ascii "process 2 role 0 cut 2 upper 3 start 0 checkpoint 0\n"
     ++ ascii "visits 3 events 5 units 15 workers 7\n"
 
-computed : foundText tubeLog 0 2 ≡ tubeText
-unfolding anyBelow maxBelow sumBelow firstBelow lastBelow tabulate sweep size worker roleOf count eventOf checkpoints checkpointOf isSend isUnlogged isLogged isReceive namedOf component turnIf turn visit visitAt beginning figure2 happened upperAt upperLine bitOf workersWord mayChoose loses workerLoses lost usable indexIf loweredAt lowered planStarts standsAt identifierOf identifierAt planWord planWords planCut planStart replayed eventsOf eventUnits workerUnits unitsOf builtIn spelled decimal named fourNamed breakpointLine processLine processLines foundText
+computed : foundText (tubeLog .workers) 0 2 ≡ tubeText
+unfolding anyBelow maxBelow sumBelow firstBelow lastBelow tabulate sweep workerCount worker roleOf eventCount eventOf checkpointCount checkpointOf
+    isSend isUnlogged isLogged isReceive namedOf component turnIf turn visit visitAt beginning figure2 happened upperAt upperLine bitOf workersWord
+    mayChoose loses workerLoses someLoses usable indexIf rolledBackAt rolledBack planStarts standsAt identifierOf identifierAt planWord planWords
+    cutIn startIn replayed eventsOf eventUnits workerUnits unitsOf builtIn spelled decimal withNumber fourNumbers breakpointLine processLine
+    processLines foundText foundCut foundPlan
 computed = refl
 
-accepted : breakpointRefusal tube 0 2 ≡ 0
-unfolding breakpointRefusal orElse workerRefusal eventRefusal size worker count
-accepted = rw (tube-accepted, tube-model)
+accepted : breakpointRefusal (given tube) 0 2 ≡ 0
+unfolding breakpointRefusal orElse workerRefusal eventRefusal workerCount worker eventCount
+accepted = rw (tube-accepted, tube-workers)
 
 pub tube-text : textOf tubeInput ≡ tubeText
 unfolding textOf le
-tube-text = accepted-text tube 0 2 accepted ∙ rw tube-model computed
+tube-text = accepted-text tube 0 2 accepted ∙ rw tube-workers computed

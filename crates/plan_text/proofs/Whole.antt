@@ -11,17 +11,17 @@ use lib.ListN.{length, drop, length-append}
 use lib.Seq.{take-all}
 use Rattle.bytes_le.specs.Little.{le}
 use Rattle.log.specs.Limits.{maxWorkers}
-use Rattle.log.specs.Layout.{logOf}
-use Rattle.log.specs.Model.{Log, size, roleOf}
-use Rattle.causality.specs.Cut.{at}
-use Rattle.causality.specs.Figure2.{figure2, lowerCut}
-use Rattle.causality.specs.Lent.{breakpointRefusal, onto}
+use Rattle.log.specs.Layout.{workersOf}
+use Rattle.log.specs.Model.{Workers, workerCount, roleOf}
+use Rattle.lent.specs.Lent.{at, onto}
+use Rattle.accept.specs.Refusal.{given}
+use Rattle.causality.specs.Figure2.{lowerCut}
+use Rattle.causality.specs.Refusals.{breakpointRefusal}
 use Rattle.causality.specs.Upper.{upperLine}
-use Rattle.causality.specs.Workers.{workersWord}
-use Rattle.restore.specs.Cost.{eventsOf, unitsOf, builtIn}
-use Rattle.restore.specs.Plan.{planStarts, planWords}
-use Rattle.restore.specs.Words.{planCut, planStart}
-use Rattle.plan_text.specs.Text.{ascii, spelled, decimal, named, ended, refusedText, breakpointLine, fourNamed, processLine, processLines, totalsLine, foundText, planText, textOf}
+use Rattle.restore.specs.Calls.{foundPlan}
+use Rattle.restore.specs.Plan.{planWords}
+use Rattle.restore.specs.Words.{cutIn, startIn}
+use Rattle.plan_text.specs.Text.{ascii, spelled, decimal, withNumber, ended, refusedText, breakpointLine, fourNumbers, processLine, processLines, totalsLine, foundText, planText, textOf}
 use Rattle.plan_text.specs.Buffer.{Holds}
 use Rattle.plan_text.proofs.Enough.{few}
 
@@ -35,9 +35,9 @@ unfolding spelled
 spelled-few zero n = omega arith
 spelled-few (suc k) n = one-more k n (ltb n 10) (spelled k (n / 10)) (spelled-few k (n / 10))
 
-named-few : (text name : List ℕ) (n : ℕ) → length (named text name n) ≤ length text + length name + 20
-unfolding named decimal
-named-few text name n =
+with-number-few : (text name : List ℕ) (n : ℕ) → length (withNumber text name n) ≤ length text + length name + 20
+unfolding withNumber decimal
+with-number-few text name n =
     let last = length-append (text ++ name) (spelled 20 n) in let first = length-append text name in let h = spelled-few 20 n in omega arith
 
 ended-few : (text : List ℕ) → length (ended text) ≤ length text + 1
@@ -46,37 +46,37 @@ ended-few text = let last = length-append text (10 ∷ []) in omega arith
 -- ---- the lines, with the bytes of their names and 20 for each number
 refused-few : (number : ℕ) → length (refusedText number) ≤ 29
 unfolding refusedText
-refused-few number = omega (arith, ended-few (named [] (ascii "refused ") number), named-few [] (ascii "refused ") number)
+refused-few number = omega (arith, ended-few (withNumber [] (ascii "refused ") number), with-number-few [] (ascii "refused ") number)
 
 breakpoint-few : (w e : ℕ) → length (breakpointLine w e) ≤ 53
 unfolding breakpointLine
 breakpoint-few w e =
-    let a = named [] (ascii "breakpoint ") w in
-    let b = named a (ascii " ") e in
-    omega (arith, named-few [] (ascii "breakpoint ") w, named-few a (ascii " ") e, ended-few b)
+    let a = withNumber [] (ascii "breakpoint ") w in
+    let b = withNumber a (ascii " ") e in
+    omega (arith, with-number-few [] (ascii "breakpoint ") w, with-number-few a (ascii " ") e, ended-few b)
 
 four-few : (text first second third fourth : List ℕ) (a b c d : ℕ)
-    → length (fourNamed text first a second b third c fourth d) ≤ length text + length first + length second + length third + length fourth + 81
-unfolding fourNamed
+    → length (fourNumbers text first a second b third c fourth d) ≤ length text + length first + length second + length third + length fourth + 81
+unfolding fourNumbers
 four-few text first second third fourth a b c d =
-    let one = named text first a in
-    let two = named one second b in
-    let three = named two third c in
-    let four = named three fourth d in
-    omega (arith, named-few text first a, named-few one second b, named-few two third c, named-few three fourth d, ended-few four)
+    let one = withNumber text first a in
+    let two = withNumber one second b in
+    let three = withNumber two third c in
+    let four = withNumber three fourth d in
+    omega (arith, with-number-few text first a, with-number-few one second b, with-number-few two third c, with-number-few three fourth d, ended-few four)
 
 process-few : (text : List ℕ) (role : ℕ) (words upper : List ℕ) (w : ℕ) → length (processLine text role words upper w) ≤ length text + 166
 unfolding processLine
 process-few text role words upper w =
-    let cut = planCut words w in
-    let start = planStart words w in
+    let cut = cutIn words w in
+    let start = startIn words w in
     let identifier = at words (3 * w + 2) in
-    let a = named text (ascii "process ") w in
-    let b = named a (ascii " role ") role in
+    let a = withNumber text (ascii "process ") w in
+    let b = withNumber a (ascii " role ") role in
     omega
-    (arith, named-few text (ascii "process ") w, named-few a (ascii " role ") role, four-few b (ascii " cut ") (ascii " upper ") (ascii " start ") (ascii " checkpoint ") cut (at upper w) start identifier)
+    (arith, with-number-few text (ascii "process ") w, with-number-few a (ascii " role ") role, four-few b (ascii " cut ") (ascii " upper ") (ascii " start ") (ascii " checkpoint ") cut (at upper w) start identifier)
 
-processes-few : (text : List ℕ) (log : Log) (words upper : List ℕ) (k : ℕ) → length (processLines text log words upper k) ≤ length text + 166 * k
+processes-few : (text : List ℕ) (log : Workers) (words upper : List ℕ) (k : ℕ) → length (processLines text log words upper k) ≤ length text + 166 * k
 unfolding processLines
 processes-few text log words upper zero = omega arith
 processes-few text log words upper (suc k) =
@@ -87,27 +87,28 @@ totals-few : (text : List ℕ) (visits events units workers : ℕ) → length (t
 totals-few text visits events units workers =
     omega (arith, four-few text (ascii "visits ") (ascii " events ") (ascii " units ") (ascii " workers ") visits events units workers)
 
-found-few : (log : Log) (w e : ℕ) → size log ≤ maxWorkers → length (foundText log w e) ≤ 65536
+found-few : (log : Workers) (w e : ℕ) → workerCount log ≤ maxWorkers → length (foundText log w e) ≤ 65536
 unfolding foundText
 found-few log w e h =
     let cut = lowerCut log w e in
+    let found = foundPlan log w e in
     let first = breakpointLine w e in
-    let lines = processLines first log (planWords log cut) (upperLine log w e) (size log) in
-    omega (arith, breakpoint-few w e, processes-few first log (planWords log cut) (upperLine log w e) (size log), totals-few lines (figure2 log w e .visits) (eventsOf log cut (planStarts log cut)) (unitsOf builtIn log cut (planStarts log cut)) (workersWord cut (size log)))
+    let lines = processLines first log (planWords log cut) (upperLine log w e) (workerCount log) in
+    omega (arith, breakpoint-few w e, processes-few first log (planWords log cut) (upperLine log w e) (workerCount log), totals-few lines (found .visits) (found .events) (found .units) (found .workers))
 
-plan-few : (s : List ℕ) (w e : ℕ) → length (planText s w e) ≤ 65536
+plan-few : (s : List ℕ) (w e : ℕ) → length (planText (given s) w e) ≤ 65536
 unfolding planText
-plan-few s w e = go (eqb (breakpointRefusal s w e) 0) refl
+plan-few s w e = go (eqb (breakpointRefusal (given s) w e) 0) refl
   where
-    go : (b : Bool) → eqb (breakpointRefusal s w e) 0 ≡ b → length (cond b (foundText (logOf s) w e) (refusedText (breakpointRefusal s w e))) ≤ 65536
-    go true q = found-few (logOf s) w e (few s w e (eqb-true (breakpointRefusal s w e) 0 q))
-    go false q = omega (arith, refused-few (breakpointRefusal s w e))
+    go : (b : Bool) → eqb (breakpointRefusal (given s) w e) 0 ≡ b → length (cond b (foundText (workersOf s) w e) (refusedText (breakpointRefusal (given s) w e))) ≤ 65536
+    go true q = found-few (workersOf s) w e (few s w e (eqb-true (breakpointRefusal (given s) w e) 0 q))
+    go false q = omega (arith, refused-few (breakpointRefusal (given s) w e))
 
 pub text-fits : (input : List ℕ) → length (textOf input) ≤ 65536
 unfolding textOf
 text-fits input = go (ltb (length input) 8 || ltb 65536 (length input))
   where
-    go : (b : Bool) → length (cond b (refusedText 1) (planText (drop 8 input) (le 4 input 0) (le 4 input 4))) ≤ 65536
+    go : (b : Bool) → length (cond b (refusedText 1) (planText (given (drop 8 input)) (le 4 input 0) (le 4 input 4))) ≤ 65536
     go true = omega (arith, refused-few 1)
     go false = plan-few (drop 8 input) (le 4 input 0) (le 4 input 4)
 

@@ -4,7 +4,7 @@ use mathlib.Core.Path.{_≡_}
 use mathlib.Core.List.{List}
 use Prim.Native.Nat.{ℕ}
 use lib.ListN.{length, take}
-use Rattle.causality.specs.Lent.{onto}
+use Rattle.lent.specs.Lent.{onto}
 
 -- as much of a text as the lent bytes have room for
 abbrev pub room : List ℕ → List ℕ → List ℕ

@@ -4,15 +4,15 @@ ghost use mathlib.Core.Path.{_≡_};
 ghost use mathlib.Core.List.{[], _∷_, _++_};
 ghost use Prim.Native.Nat.{_+_, _*_, _<_, _≤_};
 ghost use lib.ListN.{length};
-ghost use Rattle.log.specs.Layout.{logOf};
-ghost use Rattle.log.specs.Model.{size};
-ghost use Rattle.accept.specs.Refusal.{refusal};
+ghost use Rattle.log.specs.Layout.{workersOf};
+ghost use Rattle.log.specs.Model.{workerCount};
+ghost use Rattle.accept.specs.Refusal.{logRefusal, given};
 ghost use Rattle.causality.specs.Figure2.{lowerCut};
-ghost use Rattle.causality.specs.Lent.{breakpointRefusal};
+ghost use Rattle.causality.specs.Refusals.{breakpointRefusal};
 ghost use Rattle.causality.specs.Upper.{upperLine};
 ghost use Rattle.restore.specs.Plan.{planWords};
-ghost use Rattle.planner.specs.Calls.{planTotals};
-ghost use Rattle.plan_text.specs.Text.{named, ended, refusedText, breakpointLine, fourNamed, wordsOf, processLine, processLines, totalsLine, foundText, planText, textOf};
+ghost use Rattle.restore.specs.Calls.{foundPlan, planTotals};
+ghost use Rattle.plan_text.specs.Text.{withNumber, ended, refusedText, breakpointLine, fourNumbers, wordsOf, processLine, processLines, totalsLine, foundText, planText, textOf};
 ghost use Rattle.plan_text.specs.Buffer.{Holds, Adds};
 
 // The longest input, in bytes.
@@ -25,7 +25,7 @@ const SCRATCH: usize = log::MAX_WORKERS * log::MAX_WORKERS;
 
 // Puts a byte at a place of the text, where there is room for it, and gives the place after it.
 fn put_byte(out: &mut [u8], at: usize, byte: u8) -> usize
-    ensures { λ r. ⌜ Adds (now (out .entry)) at (now (out .exit)) r (λ text. text ++ (byte ∷ [])) ⌝ }
+    ensures text { λ r. ⌜ Adds (now (out .entry)) at (now (out .exit)) r (λ text. text ++ (byte ∷ [])) ⌝ }
 {
     if out.len() <= at {
         return at;
@@ -36,7 +36,7 @@ fn put_byte(out: &mut [u8], at: usize, byte: u8) -> usize
 
 // Puts bytes, as many as there is room for.
 fn put(out: &mut [u8], at: usize, bytes: &[u8]) -> usize
-    ensures { λ r. ⌜ Adds (now (out .entry)) at (now (out .exit)) r (λ text. text ++ now (bytes .entry)) ⌝ }
+    ensures text { λ r. ⌜ Adds (now (out .entry)) at (now (out .exit)) r (λ text. text ++ now (bytes .entry)) ⌝ }
 {
     let mut next = at;
     let mut k: usize = 0;
@@ -49,7 +49,7 @@ fn put(out: &mut [u8], at: usize, bytes: &[u8]) -> usize
 
 // Puts a name and a number in decimal.
 fn put_number(out: &mut [u8], at: usize, name: &[u8], number: u64) -> usize
-    ensures { λ r. ⌜ Adds (now (out .entry)) at (now (out .exit)) r (λ text. named text (now (name .entry)) number) ⌝ }
+    ensures text { λ r. ⌜ Adds (now (out .entry)) at (now (out .exit)) r (λ text. withNumber text (now (name .entry)) number) ⌝ }
 {
     let next = put(out, at, name);
     let mut digits = [0u8; 20];
@@ -59,28 +59,29 @@ fn put_number(out: &mut [u8], at: usize, name: &[u8], number: u64) -> usize
 
 // Puts a name and a 32-bit number.
 fn put_word(out: &mut [u8], at: usize, name: &[u8], number: u32) -> usize
-    ensures { λ r. ⌜ Adds (now (out .entry)) at (now (out .exit)) r (λ text. named text (now (name .entry)) number) ⌝ }
+    ensures text { λ r. ⌜ Adds (now (out .entry)) at (now (out .exit)) r (λ text. withNumber text (now (name .entry)) number) ⌝ }
 {
     put_number(out, at, name, number as u64)
 }
 
 // Puts the end of a line.
 fn put_end(out: &mut [u8], at: usize) -> usize
-    ensures { λ r. ⌜ Adds (now (out .entry)) at (now (out .exit)) r ended ⌝ }
+    ensures text { λ r. ⌜ Adds (now (out .entry)) at (now (out .exit)) r ended ⌝ }
 {
     put(out, at, b"\n")
 }
 
-fn put_refused(out: &mut [u8], number: u32) -> usize
-    ensures { λ r. ⌜ Holds (now (out .entry)) (refusedText number) (now (out .exit)) r ⌝ }
+// A refusal.
+fn put_refused(out: &mut [u8], refusal: u32) -> usize
+    ensures text { λ r. ⌜ Holds (now (out .entry)) (refusedText refusal) (now (out .exit)) r ⌝ }
 {
-    let next = put_word(out, 0, b"refused ", number);
+    let next = put_word(out, 0, b"refused ", refusal);
     put_end(out, next)
 }
 
 // The first line.
 fn put_breakpoint(out: &mut [u8], worker: u32, event: u32) -> usize
-    ensures { λ r. ⌜ Holds (now (out .entry)) (breakpointLine worker event) (now (out .exit)) r ⌝ }
+    ensures text { λ r. ⌜ Holds (now (out .entry)) (breakpointLine worker event) (now (out .exit)) r ⌝ }
 {
     let a = put_word(out, 0, b"breakpoint ", worker);
     let b = put_word(out, a, b" ", event);
@@ -100,7 +101,7 @@ fn put_four(
     fourth: &[u8],
     d: u64,
 ) -> usize
-    ensures { λ r. ⌜ Adds (now (out .entry)) at (now (out .exit)) r (λ text. fourNamed text (now (first .entry)) a (now (second .entry)) b (now (third .entry)) c (now (fourth .entry)) d) ⌝ }
+    ensures text { λ r. ⌜ Adds (now (out .entry)) at (now (out .exit)) r (λ text. fourNumbers text (now (first .entry)) a (now (second .entry)) b (now (third .entry)) c (now (fourth .entry)) d) ⌝ }
 {
     let one = put_number(out, at, first, a);
     let two = put_number(out, one, second, b);
@@ -111,7 +112,7 @@ fn put_four(
 
 // The numbers of a worker's line that the upper line and the plan give.
 fn put_words(out: &mut [u8], at: usize, cut: u32, upper: u32, start: u32, identifier: u32) -> usize
-    ensures { λ r. ⌜ Adds (now (out .entry)) at (now (out .exit)) r (λ text. wordsOf text cut upper start identifier) ⌝ }
+    ensures text { λ r. ⌜ Adds (now (out .entry)) at (now (out .exit)) r (λ text. wordsOf text cut upper start identifier) ⌝ }
 {
     put_four(
         out,
@@ -137,7 +138,7 @@ fn put_process(
     upper: &[u32],
 ) -> usize
     requires { ⌜ (3 * w + 3 ≤ length (now words)) × (w < length (now upper)) ⌝ }
-    ensures { λ r. ⌜ Adds (now (out .entry)) at (now (out .exit)) r (λ text. processLine text role (now (words .entry)) (now (upper .entry)) w) ⌝ }
+    ensures text { λ r. ⌜ Adds (now (out .entry)) at (now (out .exit)) r (λ text. processLine text role (now (words .entry)) (now (upper .entry)) w) ⌝ }
 {
     let cut = words[3 * w];
     let start = words[3 * w + 1];
@@ -150,10 +151,11 @@ fn put_process(
 
 // The lines of all workers.
 fn put_processes(out: &mut [u8], at: usize, log: &[u8], words: &[u32], upper: &[u32]) -> usize
-    requires { ⌜ (refusal (now log) ≡ 0) × (length (now words) ≡ 3 * size (logOf (now log))) × (length (now upper) ≡ size (logOf (now log))) ⌝ }
-    ensures { λ r. ⌜ Adds (now (out .entry)) at (now (out .exit)) r (λ text. processLines text (logOf (now (log .entry))) (now (words .entry)) (now (upper .entry)) (size (logOf (now (log .entry))))) ⌝ }
+    requires { ⌜ (logRefusal (now log) ≡ 0) × (length (now words) ≡ 3 * workerCount (workersOf (now log))) × (length (now upper) ≡ workerCount (workersOf (now log))) ⌝ }
+    ensures text { λ r. ⌜ Adds (now (out .entry)) at (now (out .exit)) r
+        (λ text. processLines text (workersOf (now (log .entry))) (now (words .entry)) (now (upper .entry)) (workerCount (workersOf (now (log .entry))))) ⌝ }
 {
-    let n = log::size_of(log);
+    let n = log::worker_count(log);
     let mut next = at;
     let mut w: usize = 0;
     while w < n {
@@ -172,7 +174,7 @@ fn put_totals(
     units: u64,
     workers: u64,
 ) -> usize
-    ensures { λ r. ⌜ Adds (now (out .entry)) at (now (out .exit)) r (λ text. totalsLine text visits events units workers) ⌝ }
+    ensures text { λ r. ⌜ Adds (now (out .entry)) at (now (out .exit)) r (λ text. totalsLine text visits events units workers) ⌝ }
 {
     put_four(
         out,
@@ -198,8 +200,9 @@ fn put_found(
     upper: &[u32],
     totals: &[u64],
 ) -> usize
-    requires { ⌜ (breakpointRefusal (now log) worker event ≡ 0) × (now words ≡ planWords (logOf (now log)) (lowerCut (logOf (now log)) worker event)) × (now upper ≡ upperLine (logOf (now log)) worker event) × (now totals ≡ planTotals (now log) worker event) ⌝ }
-    ensures { λ r. ⌜ Holds (now (out .entry)) (foundText (logOf (now (log .entry))) worker event) (now (out .exit)) r ⌝ }
+    requires { ⌜ (breakpointRefusal (given (now log)) worker event ≡ 0) × (now words ≡ planWords (workersOf (now log)) (lowerCut (workersOf (now log)) worker event))
+        × (now upper ≡ upperLine (workersOf (now log)) worker event) × (now totals ≡ planTotals (foundPlan (workersOf (now log)) worker event)) ⌝ }
+    ensures text { λ r. ⌜ Holds (now (out .entry)) (foundText (workersOf (now (log .entry))) worker event) (now (out .exit)) r ⌝ }
 {
     let a = put_breakpoint(out, worker, event);
     let b = put_processes(out, a, log, words, upper);
@@ -208,18 +211,18 @@ fn put_found(
 
 // The text for a log, a worker and an event.
 fn put_plan(out: &mut [u8], log: &[u8], worker: u32, event: u32) -> usize
-    ensures { λ r. ⌜ Holds (now (out .entry)) (planText (now (log .entry)) worker event) (now (out .exit)) r ⌝ }
+    ensures text { λ r. ⌜ Holds (now (out .entry)) (planText (given (now (log .entry))) worker event) (now (out .exit)) r ⌝ }
 {
     let mut words = [0u32; PLAN_WORDS];
     let mut scratch = [0u32; SCRATCH];
     let mut totals = [0u64; 4];
-    let number = planner::plan(log, worker, event, &mut words, &mut scratch, &mut totals);
-    if number != 0 {
-        return put_refused(out, number);
+    let refusal = planner::plan(log, worker, event, &mut words, &mut scratch, &mut totals);
+    if refusal != 0 {
+        return put_refused(out, refusal);
     }
     let mut upper = [0u32; log::MAX_WORKERS];
     planner::upper_line(log, worker, event, &mut upper);
-    let n = log::size_of(log);
+    let n = log::worker_count(log);
     put_found(
         out,
         log,
@@ -234,7 +237,7 @@ fn put_plan(out: &mut [u8], log: &[u8], worker: u32, event: u32) -> usize
 // The text of an input: worker and event, 32 bits each, then the log. It is put at the start of `out`, as much as there is room for;
 // gives the number of bytes put.
 pub fn write_text(input: &[u8], out: &mut [u8]) -> usize
-    ensures { λ r. ⌜ Holds (now (out .entry)) (textOf (now (input .entry))) (now (out .exit)) r ⌝ }
+    ensures text { λ r. ⌜ Holds (now (out .entry)) (textOf (now (input .entry))) (now (out .exit)) r ⌝ }
 {
     if input.len() < 8 {
         return put_refused(out, 1);

@@ -5,17 +5,8 @@ use Rattle.plan_text.proofs.Buffer.{holds-none}
 use Rattle.plan_text.proofs.put_refused.Statement.{statement}
 use Rattle.plan_text.proofs.put_refused.Tie as tie
 
-slice-aggregate-put-word : tie.Need-slice-aggregate-put-word
-slice-aggregate-put-word c = search needs
-
-put-word-requires : tie.Need-put-word-requires
-put-word-requires c κs = search needs
-
 put-end-requires : tie.Need-put-end-requires
 put-end-requires c κs = search needs
-
-same-length : tie.Need-same-length
-same-length c = search needs
 
 returns : tie.Need-returns
 unfolding refusedText
@@ -23,5 +14,4 @@ returns c = c .before .before .put-end .ensures _ _ (c .before .before .before .
 
 pub put-refused-spec : {M : Type 1} → statement M
 put-refused-spec =
-    tie.close
-    (tie.spec slice-aggregate-put-word put-word-requires put-end-requires same-length returns)
+    tie.close (tie.spec (λ c. search needs) (λ c κs. search needs) put-end-requires (λ c. search needs) returns)
