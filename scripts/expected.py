@@ -9,6 +9,12 @@ LENT = 72
 PLAN_LENT = 200
 ROOM = 4104
 
+# The numbers of the longest list, the answers looked at, the calls of a list with a plan, and the words of them looked at.
+NUMBERS = 528
+ANSWERS = NUMBERS + 8
+CALLS = 32
+STEPS = CALLS * 65 + 8
+
 # The identifiers that are tested for a covering set.
 IDENTIFIERS = (0, 1, 2, 3, 4294967295)
 
@@ -111,12 +117,12 @@ def begun(case, n):
     return number, plan, plan[1:3 * n:3] + fillers(LENT)[n:]
 
 
-def worker_numbers(pattern, n):
+def worker_numbers(pattern, n, count):
     """A list of worker numbers: 0 to n - 1, n, and the largest number for n + 1."""
-    places = range(8 * (n + 2))
+    places = range(count)
     turns = (
         [k for k in places],
-        [528 - k for k in places],
+        [NUMBERS - k for k in places],
         [k + k // 8 for k in places],
         [k // 8 for k in places],
     )[pattern]
@@ -125,9 +131,41 @@ def worker_numbers(pattern, n):
 
 def list_line(case, n, pattern):
     _, plan, positions = begun(case, n)
-    results = reference.step_calls(case[0], plan, positions, worker_numbers(pattern, n))
+    results = reference.step_calls(case[0], plan, positions, worker_numbers(pattern, n, 8 * (n + 2)))
     answers = "".join(" %d" % answer for answer, _ in results)
     return "list %d answers%s" % (pattern, answers) + positions_after(n, results[-1][1])
+
+
+def steps_line(case, n, pattern, lent):
+    """The list in one call, with words for this many answers."""
+    _, plan, positions = begun(case, n)
+    workers = worker_numbers(pattern, n, 8 * (n + 2))
+    number, after, answers = reference.steps_call(case[0], plan, positions, workers, fillers(lent))
+    line = "steps of list %d answers lent %d" % (pattern, lent) + after_call(number, len(workers), answers, ANSWERS)
+    return line + "positions" + positions_after(n, after)
+
+
+def restore_line(case, n, pattern, lent):
+    """The plan with a list of step calls. lent has the numbers of plan words, scratch, positions, steps and totals."""
+    words, scratch, positions, steps, totals = lent
+    number, found, plan, after, left = reference.restore_and_replay_call(
+        *case, worker_numbers(pattern, n, CALLS), fillers(words), scratch, fillers(positions), fillers(steps), [0] * totals)
+    line = "restore and replay %d lent %d %d %d %d %d" % (pattern, *lent)
+    line += " visits %d events %d units %d workers %d" % tuple((found + [0])[:4])
+    line += (" scratch unchanged" if number else "") + after_call(number, 3 * n, plan, PLAN_LENT)
+    for name, count, now, most in (("positions", n, after, LENT), ("steps", CALLS * (n + 1), left, STEPS)):
+        line += name + after_call(number, count, now, most)[len(" refusal %d" % number):]
+    return line
+
+
+def replayed_lines(case, n):
+    """Each list, with more words than needed or just enough; then with one word too few of each kind."""
+    needed = [3 * n, n * n, n, CALLS * (n + 1), 4]
+    text = restore_line(case, n, 0, (PLAN_LENT, ROOM, LENT, STEPS, 4))
+    text += "".join(restore_line(case, n, pattern, needed) for pattern in (1, 2, 3))
+    for kind in range(5):
+        text += restore_line(case, n, 0, needed[:kind] + [one_less(needed[kind])] + needed[kind + 1:])
+    return text
 
 
 def positions_after(n, positions):
@@ -181,19 +219,26 @@ def replay_lines(case, n):
     number, plan, _ = begun(case, n)
     text = "plan" + after_call(number, 3 * n, plan, PLAN_LENT)
     text += "".join(list_line(case, n, pattern) for pattern in range(4))
+    for pattern, lent in ((0, ANSWERS), (1, 8 * (n + 2)), (2, one_less(8 * (n + 2)))):
+        text += steps_line(case, n, pattern, lent)
     for w in (0, one_less(n)):
         for by in (1, 65536, 4294967295):
             text += changed_line(case, n, by, w)
     text += lost_line(case, n)
     for lent, room, w in ((3 * n, n, 0), (one_less(3 * n), n, 0), (3 * n, one_less(n), 0), (one_less(3 * n), one_less(n), n)):
         text += short_line(case, n, lent, room, w)
-    return text
+    return text + replayed_lines(case, n)
+
+
+def case_of(content):
+    """The log, the worker and the event of a case file."""
+    worker, event = struct.unpack_from("<II", content)
+    return content[8:], worker, event
 
 
 def case_lines(name, content):
     """The name and the number that refuses the log, then the lines of each call."""
-    worker, event = struct.unpack_from("<II", content)
-    case = (content[8:], worker, event)
+    case = case_of(content)
     n = size(case[0])
     first = "%s %d\n" % (name, reference.refusal(case[0]))
     return first + causality_lines(case, n) + restore_lines(case, n) + replay_lines(case, n)

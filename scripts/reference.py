@@ -427,15 +427,21 @@ def covers_call(data, identifier):
     return number, number == 0 and covers(read(data), identifier)
 
 
+def check_state(log, plan, positions):
+    """The cut and the starts of plan words, in order with these positions."""
+    cut, starts = plan[0:3 * log.n:3], plan[1:3 * log.n:3]
+    for w in range(log.n):
+        refuse_if(not starts[w] <= positions[w] <= cut[w] <= log.count(w), 16)
+    return cut, starts
+
+
 def step_call(data, plan, positions, worker):
     """Answer, positions."""
     try:
         log = read(data)
         refuse_if(worker >= log.n, 12)
         refuse_if(len(plan) < 3 * log.n or len(positions) < log.n, 14)
-        cut, starts = plan[0:3 * log.n:3], plan[1:3 * log.n:3]
-        for w in range(log.n):
-            refuse_if(not starts[w] <= positions[w] <= cut[w] <= log.count(w), 16)
+        cut, starts = check_state(log, plan, positions)
     except Refused as refused:
         return refused.number, positions
     return step(log, cut, starts, positions, worker)
@@ -448,6 +454,34 @@ def step_calls(data, plan, positions, workers):
         answer, positions = step_call(data, plan, positions, worker)
         results.append((answer, positions))
     return results
+
+
+def steps_call(data, plan, positions, workers, answers):
+    """Refusal, positions, answers."""
+    try:
+        log = read(data)
+        refuse_if(len(plan) < 3 * log.n or len(positions) < log.n or len(answers) < len(workers), 14)
+        check_state(log, plan, positions)
+    except Refused as refused:
+        return refused.number, positions, answers
+    results = step_calls(data, plan, positions, workers)
+    return 0, results[-1][1], onto([answer for answer, _ in results], answers)
+
+
+def restore_and_replay_call(data, worker, event, workers, words, scratch, positions, steps, totals):
+    """Refusal, totals, words, positions, steps. scratch is the number of scratch words."""
+    try:
+        log = read(data)
+        check_breakpoint(log, worker, event)
+        refuse_if(len(words) < 3 * log.n or len(positions) < log.n or len(totals) < 4, 14)
+        refuse_if(len(steps) < len(workers) * (log.n + 1), 14)
+        refuse_if(scratch < log.n * log.n, 15)
+    except Refused as refused:
+        return refused.number, totals, words, positions, steps
+    _, *found, plan = plan_call(data, worker, event, words, scratch)
+    results = step_calls(data, plan, onto(plan[1:3 * log.n:3], positions), workers)
+    left = [word for answer, after in results for word in [answer] + after[:log.n]]
+    return 0, onto(found, totals), plan, results[-1][1], onto(left, steps)
 
 
 def printed(content):
@@ -591,7 +625,9 @@ def check_plan(log, data, i, e):
     turns = list(range(log.n)) * (1 + events_of(cut, starts))
     results = step_calls(data, words, starts, turns)
     expect("all at their cuts", results[-1], (21, cut))
-    expect("steps done", [answer for answer, _ in results].count(0), events_of(cut, starts))
+    answers = [answer for answer, _ in results]
+    expect("steps done", answers.count(0), events_of(cut, starts))
+    expect("steps", steps_call(data, words, starts, turns, [7] * len(turns)), (0, cut, answers))
 
 
 def check_random(logs_tried):

@@ -1,73 +1,56 @@
 // Calls that write words: each is lent the first of 72 words that hold fillers, and all 72 are looked at after it.
 
-ghost use Prim.Native.Nat.{_≤_};
-ghost use lib.ListN.{length};
-
-fn vector_in(log: &[u8], worker: u32, event: u32, lent: usize, words: &mut [u32]) -> u32
-    requires { ⌜ lent ≤ length (now words) ⌝ }
-{
-    causality::vector(log, worker, event, &mut words[..lent])
-}
-
-fn upper_in(log: &[u8], worker: u32, event: u32, lent: usize, words: &mut [u32]) -> u32
-    requires { ⌜ lent ≤ length (now words) ⌝ }
-{
-    causality::upper_line(log, worker, event, &mut words[..lent])
-}
-
-fn lower_in(
-    log: &[u8],
-    worker: u32,
-    event: u32,
-    lent: usize,
-    room: usize,
-    words: &mut [u32],
-    scratch: &mut [u32],
-) -> causality::Cut
-    requires { ⌜ (lent ≤ length (now words)) × (room ≤ length (now scratch)) ⌝ }
-{
-    causality::lower_cut(log, worker, event, &mut words[..lent], &mut scratch[..room])
-}
+use super::words;
+ghost use Prim.Native.Nat.{_+_, _*_, _≤_};
+ghost use Rattle.log.specs.Limits.{maxWorkers};
 
 pub(crate) fn run_vector(log: &[u8], worker: u32, event: u32, n: usize, lent: usize)
-    requires { ⌜ (n ≤ 64) × (lent ≤ 72) ⌝ }
+    requires { ⌜ (n ≤ maxWorkers) × (lent ≤ maxWorkers + 8) ⌝ }
 {
-    let mut words = [0u32; super::words::LENT];
-    super::words::fill(&mut words);
-    let number = vector_in(log, worker, event, lent, &mut words);
-    super::words::print_number(b"vector lent", lent as u64);
-    super::words::print_line(number, n, &words);
+    let mut words = [0u32; words::LENT];
+    words::fill(&mut words);
+    let number = planner::vector(log, worker, event, words::first(&mut words, lent));
+    words::print_count(b"vector lent", lent);
+    words::print_line(number, n, &words);
 }
 
 pub(crate) fn run_upper(log: &[u8], worker: u32, event: u32, n: usize, lent: usize)
-    requires { ⌜ (n ≤ 64) × (lent ≤ 72) ⌝ }
+    requires { ⌜ (n ≤ maxWorkers) × (lent ≤ maxWorkers + 8) ⌝ }
 {
-    let mut words = [0u32; super::words::LENT];
-    super::words::fill(&mut words);
-    let number = upper_in(log, worker, event, lent, &mut words);
-    super::words::print_number(b"upper line lent", lent as u64);
-    super::words::print_line(number, n, &words);
+    let mut words = [0u32; words::LENT];
+    words::fill(&mut words);
+    let number = planner::upper_line(log, worker, event, words::first(&mut words, lent));
+    words::print_count(b"upper line lent", lent);
+    words::print_line(number, n, &words);
 }
 
-// Prints the numbers of a lower cut, and for a refusal whether the scratch is unchanged: after a success it is free.
-fn print_cut(cut: causality::Cut, scratch: &[u32]) {
-    super::words::print_number(b" visits", cut.visits);
-    super::words::print_number(b" workers", cut.workers);
-    if cut.refusal != 0 {
-        super::words::print_unchanged(b" scratch", scratch, 0);
+// Prints the totals of a lower cut, and for a refusal whether the scratch is unchanged: after a success it is free.
+fn print_cut(number: u32, totals: &[u64; 2], scratch: &[u32]) {
+    words::print_number(b" visits", totals[0]);
+    words::print_number(b" workers", totals[1]);
+    if number != 0 {
+        words::print_unchanged(b" scratch", scratch, 0);
     }
 }
 
 pub(crate) fn run_lower(log: &[u8], worker: u32, event: u32, n: usize, lent: usize, room: usize)
-    requires { ⌜ (n ≤ 64) × (lent ≤ 72) × (room ≤ 4104) ⌝ }
+    requires { ⌜ (n ≤ maxWorkers) × (lent ≤ maxWorkers + 8) × (room ≤ maxWorkers * maxWorkers + 8) ⌝ }
 {
-    let mut words = [0u32; super::words::LENT];
-    let mut scratch = [0u32; super::words::ROOM];
-    super::words::fill(&mut words);
-    super::words::fill(&mut scratch);
-    let cut = lower_in(log, worker, event, lent, room, &mut words, &mut scratch);
-    super::words::print_number(b"lower cut lent", lent as u64);
-    super::words::print_number(b" scratch lent", room as u64);
-    print_cut(cut, &scratch);
-    super::words::print_line(cut.refusal, n, &words);
+    let mut words = [0u32; words::LENT];
+    let mut scratch = [0u32; words::ROOM];
+    let mut totals = [0u64; 2];
+    words::fill(&mut words);
+    words::fill(&mut scratch);
+    let number = planner::lower_cut(
+        log,
+        worker,
+        event,
+        words::first(&mut words, lent),
+        words::first(&mut scratch, room),
+        &mut totals,
+    );
+    words::print_count(b"lower cut lent", lent);
+    words::print_count(b" scratch lent", room);
+    print_cut(number, &totals, &scratch);
+    words::print_line(number, n, &words);
 }

@@ -1,76 +1,91 @@
 // A step of a worker with each plan word, and then each position word, in turn changed by a sum that wraps.
 
-ghost use Prim.Native.Nat.{_<_, _≤_};
-ghost use lib.ListN.{length};
+use super::words;
+ghost use Prim.Native.Nat.{_+_, _*_, _<_, _≤_};
+ghost use Rattle.log.specs.Limits.{maxWorkers};
 
 // A step of worker w: its answer, and the position of w after it.
-pub(crate) fn print_step(log: &[u8], plan: &[u32], positions: &mut [u32], w: usize)
-    requires { ⌜ (w < 64) × (64 ≤ length (now positions)) ⌝ }
+pub(crate) fn print_step(
+    log: &[u8],
+    plan: &[u32; words::PLAN_LENT],
+    positions: &mut [u32; words::LENT],
+    w: usize,
+)
+    requires { ⌜ w < maxWorkers ⌝ }
 {
-    let number = replay::step(log, plan, positions, w as u32);
-    super::words::print_word(b"", number);
-    super::words::print_word(b"", positions[w]);
+    let number = planner::step(log, plan, positions, w as u32);
+    words::print_word(b"", number);
+    words::print_word(b"", positions[w]);
 }
 
-// `all` is 3 × n, the number of plan words.
-fn run_plan_words(
+// Such a step with plan word k changed, or past `all`, the number of plan words, position word k - all.
+fn run_word(
     log: &[u8],
-    n: usize,
+    plan: [u32; words::PLAN_LENT],
+    positions: [u32; words::LENT],
     all: usize,
+    k: usize,
     by: u32,
     w: usize,
-    plan: &mut [u32],
-    positions: &mut [u32],
 )
-    requires { ⌜ (n ≤ 64) × (all ≤ 192) × (192 ≤ length (now plan)) × (64 ≤ length (now positions)) × (w < 64) ⌝ }
+    requires { ⌜ (all ≤ 3 * maxWorkers) × (k < all + maxWorkers) × (w < maxWorkers) ⌝ }
 {
-    let mut k: usize = 0;
-    while k < all {
-        super::state::set_starts(n, plan, positions);
-        let old = plan[k];
-        plan[k] = std::num::wrapping_add_u32(old, by);
-        print_step(log, plan, positions, w);
-        plan[k] = old;
+    let mut changed = plan;
+    let mut after = positions;
+    if k < all {
+        changed[k] = std::num::wrapping_add_u32(plan[k], by);
+        print_step(log, &changed, &mut after, w);
+        return;
+    }
+    after[k - all] = std::num::wrapping_add_u32(positions[k - all], by);
+    print_step(log, &plan, &mut after, w);
+}
+
+// The same for each k from `from` to `end`.
+fn run_words(
+    log: &[u8],
+    plan: [u32; words::PLAN_LENT],
+    positions: [u32; words::LENT],
+    all: usize,
+    from: usize,
+    end: usize,
+    by: u32,
+    w: usize,
+)
+    requires { ⌜ (all ≤ 3 * maxWorkers) × (end ≤ all + maxWorkers) × (w < maxWorkers) ⌝ }
+{
+    let mut k = from;
+    while k < end {
+        run_word(log, plan, positions, all, k, by, w);
         k += 1;
     }
 }
 
-fn run_position_words(log: &[u8], n: usize, by: u32, w: usize, plan: &[u32], positions: &mut [u32])
-    requires { ⌜ (n ≤ 64) × (192 ≤ length (now plan)) × (64 ≤ length (now positions)) × (w < 64) ⌝ }
+fn run_changed(log: &[u8], plan: [u32; words::PLAN_LENT], n: usize, by: u32, w: usize)
+    requires { ⌜ (n ≤ maxWorkers) × (w < maxWorkers) ⌝ }
 {
-    let mut k: usize = 0;
-    while k < n {
-        super::state::set_starts(n, plan, positions);
-        positions[k] = std::num::wrapping_add_u32(positions[k], by);
-        print_step(log, plan, positions, w);
-        k += 1;
-    }
-}
-
-fn run_changed(log: &[u8], worker: u32, event: u32, n: usize, by: u32, w: usize)
-    requires { ⌜ (n ≤ 64) × (w < 64) ⌝ }
-{
-    let mut plan = [0u32; super::words::PLAN_LENT];
-    let mut positions = [0u32; super::words::LENT];
-    super::state::begin(log, worker, event, n, &mut plan, &mut positions);
-    super::words::print_word(b"changed by", by);
-    super::words::print_number(b" step of", w as u64);
-    super::words::print(b" plan words");
-    run_plan_words(log, n, 3 * n, by, w, &mut plan, &mut positions);
-    super::words::print(b" positions");
-    run_position_words(log, n, by, w, &plan, &mut positions);
-    super::words::print(b"\n");
+    let positions = super::state::starts_of(n, plan);
+    let all = 3 * n;
+    words::print_word(b"changed by", by);
+    words::print_count(b" step of", w);
+    words::print(b" plan words");
+    run_words(log, plan, positions, all, 0, all, by, w);
+    words::print(b" positions");
+    run_words(log, plan, positions, all, all, all + n, by, w);
+    words::print(b"\n");
 }
 
 // Steps of the first worker and of the last one; a word is raised by 1 or by 65,536, or lowered by 1.
 pub(crate) fn run_changes(log: &[u8], worker: u32, event: u32, n: usize)
-    requires { ⌜ n ≤ 64 ⌝ }
+    requires { ⌜ n ≤ maxWorkers ⌝ }
 {
-    let last = super::words::one_less(n);
-    run_changed(log, worker, event, n, 1, 0);
-    run_changed(log, worker, event, n, 65536, 0);
-    run_changed(log, worker, event, n, 4294967295, 0);
-    run_changed(log, worker, event, n, 1, last);
-    run_changed(log, worker, event, n, 65536, last);
-    run_changed(log, worker, event, n, 4294967295, last);
+    let mut plan = [0u32; words::PLAN_LENT];
+    super::state::begin(log, worker, event, &mut plan);
+    let last = words::one_less(n);
+    run_changed(log, plan, n, 1, 0);
+    run_changed(log, plan, n, 65536, 0);
+    run_changed(log, plan, n, 4294967295, 0);
+    run_changed(log, plan, n, 1, last);
+    run_changed(log, plan, n, 65536, last);
+    run_changed(log, plan, n, 4294967295, last);
 }

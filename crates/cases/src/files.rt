@@ -1,15 +1,11 @@
 // Case files. A case file is an input of the program `plan`: worker and event, 32 bits each, then the log.
 
 use libc::STDERR_FILENO;
-ghost use mathlib.Core.Path.{_≡_};
-ghost use mathlib.Core.Logic.{_⊎_};
-ghost use Prim.Native.Nat.{_≤_};
 ghost use Rattle.io.specs.Counts.{Counts};
 
 // Reads an open file and prints its name; gives 0 after a message where it has under 8 bytes.
 fn read_open(file: i32, name: &[u8], bytes: &mut [u8]) -> usize
-    ensures { λ r. ⌜ Counts r (now (bytes .exit)) ⌝ }
-    ensures { λ r. ⌜ (r ≡ 0) ⊎ (8 ≤ r) ⌝ }
+    ensures counted { λ r. ⌜ Counts r (now (bytes .exit)) ⌝ }
 {
     let n = io::read_full(file, bytes);
     libc::close(file);
@@ -24,8 +20,7 @@ fn read_open(file: i32, name: &[u8], bytes: &mut [u8]) -> usize
 
 // Opens the file of this name and reads it; gives 0 after a message where it cannot be opened, too.
 fn read_named(name: &[u8], bytes: &mut [u8]) -> usize
-    ensures { λ r. ⌜ Counts r (now (bytes .exit)) ⌝ }
-    ensures { λ r. ⌜ (r ≡ 0) ⊎ (8 ≤ r) ⌝ }
+    ensures counted { λ r. ⌜ Counts r (now (bytes .exit)) ⌝ }
 {
     let file = os::open_read(name);
     if file < 0 {
@@ -38,8 +33,7 @@ fn read_named(name: &[u8], bytes: &mut [u8]) -> usize
 // Reads the file that argument i names, prints the name and gives the number of bytes read: the file's, as far as there is room.
 // Where the argument or the file cannot be read, or the file has under 8 bytes, it gives 0 after a message on standard error.
 pub(crate) fn read_case(i: usize, bytes: &mut [u8]) -> usize
-    ensures { λ r. ⌜ Counts r (now (bytes .exit)) ⌝ }
-    ensures { λ r. ⌜ (r ≡ 0) ⊎ (8 ≤ r) ⌝ }
+    ensures counted { λ r. ⌜ Counts r (now (bytes .exit)) ⌝ }
 {
     let mut name = io::buffer();
     let n = os::arg(i, &mut name);

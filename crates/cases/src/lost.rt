@@ -1,56 +1,49 @@
 // Steps of one worker from its planned start while all others start at their cuts: what they sent before is lost.
 
+use super::words;
 ghost use Prim.Native.Nat.{_<_, _≤_};
-ghost use lib.ListN.{length};
+ghost use Rattle.log.specs.Limits.{maxWorkers};
 
-// Sets start and position of each worker to its cut.
-fn set_cuts(n: usize, plan: &mut [u32], positions: &mut [u32])
-    requires { ⌜ (n ≤ 64) × (192 ≤ length (now plan)) × (64 ≤ length (now positions)) ⌝ }
+// The plan words with the start of each worker at its cut.
+fn at_cuts(n: usize, plan: [u32; words::PLAN_LENT]) -> [u32; words::PLAN_LENT]
+    requires { ⌜ n ≤ maxWorkers ⌝ }
 {
+    let mut changed = plan;
     let mut w: usize = 0;
     while w < n {
-        let cut = plan[3 * w];
-        plan[3 * w + 1] = cut;
-        positions[w] = cut;
+        changed[3 * w + 1] = plan[3 * w];
         w += 1;
     }
+    changed
 }
 
-fn set_others(n: usize, w: usize, plan: &mut [u32], positions: &mut [u32])
-    requires { ⌜ (n ≤ 64) × (w < 64) × (192 ≤ length (now plan)) × (64 ≤ length (now positions)) ⌝ }
+fn run_worker(log: &[u8], plan: [u32; words::PLAN_LENT], n: usize, w: usize)
+    requires { ⌜ (n ≤ maxWorkers) × (w < maxWorkers) ⌝ }
 {
-    let start = plan[3 * w + 1];
-    set_cuts(n, plan, positions);
-    plan[3 * w + 1] = start;
-    positions[w] = start;
+    let mut changed = at_cuts(n, plan);
+    changed[3 * w + 1] = plan[3 * w + 1];
+    let mut positions = super::state::starts_of(n, changed);
+    super::changes::print_step(log, &changed, &mut positions, w);
+    super::changes::print_step(log, &changed, &mut positions, w);
+    super::changes::print_step(log, &changed, &mut positions, w);
 }
 
-fn run_worker(log: &[u8], worker: u32, event: u32, n: usize, w: usize)
-    requires { ⌜ (n ≤ 64) × (w < 64) ⌝ }
-{
-    let mut plan = [0u32; super::words::PLAN_LENT];
-    let mut positions = [0u32; super::words::LENT];
-    super::state::begin(log, worker, event, n, &mut plan, &mut positions);
-    set_others(n, w, &mut plan, &mut positions);
-    super::changes::print_step(log, &plan, &mut positions, w);
-    super::changes::print_step(log, &plan, &mut positions, w);
-    super::changes::print_step(log, &plan, &mut positions, w);
-}
-
-fn run_workers(log: &[u8], worker: u32, event: u32, n: usize)
-    requires { ⌜ n ≤ 64 ⌝ }
+fn run_workers(log: &[u8], plan: [u32; words::PLAN_LENT], n: usize)
+    requires { ⌜ n ≤ maxWorkers ⌝ }
 {
     let mut w: usize = 0;
     while w < n {
-        run_worker(log, worker, event, n, w);
+        run_worker(log, plan, n, w);
         w += 1;
     }
 }
 
 pub(crate) fn run_lost(log: &[u8], worker: u32, event: u32, n: usize)
-    requires { ⌜ n ≤ 64 ⌝ }
+    requires { ⌜ n ≤ maxWorkers ⌝ }
 {
-    super::words::print(b"others at their cuts");
-    run_workers(log, worker, event, n);
-    super::words::print(b"\n");
+    let mut plan = [0u32; words::PLAN_LENT];
+    super::state::begin(log, worker, event, &mut plan);
+    words::print(b"others at their cuts");
+    run_workers(log, plan, n);
+    words::print(b"\n");
 }

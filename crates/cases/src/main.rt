@@ -7,43 +7,45 @@ mod files;
 mod lists;
 mod lost;
 mod plans;
+mod restores;
 mod sets;
 mod short;
 mod state;
 mod tests;
 mod words;
 
-ghost use Prim.Native.Nat.{_≤_};
+ghost use Prim.Native.Nat.{_*_, _≤_};
+ghost use Rattle.log.specs.Limits.{maxWorkers};
 
 // The number of workers; 0 where the log is refused.
 fn size(log: &[u8]) -> usize
-    ensures { λ r. ⌜ r ≤ 64 ⌝ }
+    ensures few { λ r. ⌜ r ≤ maxWorkers ⌝ }
 {
-    if accept::accept(log) != 0 {
+    if planner::log_refusal(log) != 0 {
         return 0;
     }
-    log::size_of(log)
+    log::worker_count(log)
 }
 
 // The scratch words that a lower cut or a plan of n workers needs.
 fn square(n: usize) -> usize
-    requires { ⌜ n ≤ 64 ⌝ }
-    ensures { λ r. ⌜ r ≤ 4096 ⌝ }
+    requires { ⌜ n ≤ maxWorkers ⌝ }
+    ensures few { λ r. ⌜ r ≤ maxWorkers * maxWorkers ⌝ }
 {
     n * n
 }
 
 // The words that the plan needs.
 fn triple(n: usize) -> usize
-    requires { ⌜ n ≤ 64 ⌝ }
-    ensures { λ r. ⌜ r ≤ 192 ⌝ }
+    requires { ⌜ n ≤ maxWorkers ⌝ }
+    ensures few { λ r. ⌜ r ≤ 3 * maxWorkers ⌝ }
 {
     3 * n
 }
 
 // Each call that writes words is made with more of them than it needs, with just enough, and with one too few.
 fn run_lines(log: &[u8], worker: u32, event: u32, n: usize, short: usize)
-    requires { ⌜ (n ≤ 64) × (short ≤ n) ⌝ }
+    requires { ⌜ (n ≤ maxWorkers) × (short ≤ n) ⌝ }
 {
     calls::run_vector(log, worker, event, n, words::LENT);
     calls::run_vector(log, worker, event, n, n);
@@ -54,7 +56,7 @@ fn run_lines(log: &[u8], worker: u32, event: u32, n: usize, short: usize)
 }
 
 fn run_cuts(log: &[u8], worker: u32, event: u32, n: usize, short: usize)
-    requires { ⌜ (n ≤ 64) × (short ≤ n) ⌝ }
+    requires { ⌜ (n ≤ maxWorkers) × (short ≤ n) ⌝ }
 {
     let room = square(n);
     let short_room = words::one_less(room);
@@ -66,7 +68,7 @@ fn run_cuts(log: &[u8], worker: u32, event: u32, n: usize, short: usize)
 
 // The plan is made with more words than it needs, with just enough, with one scratch word too few, and with one word too few of both.
 fn run_plans(log: &[u8], worker: u32, event: u32, n: usize)
-    requires { ⌜ n ≤ 64 ⌝ }
+    requires { ⌜ n ≤ maxWorkers ⌝ }
 {
     let all = triple(n);
     let room = square(n);
@@ -79,18 +81,19 @@ fn run_plans(log: &[u8], worker: u32, event: u32, n: usize)
 }
 
 fn run_steps(log: &[u8], worker: u32, event: u32, n: usize)
-    requires { ⌜ n ≤ 64 ⌝ }
+    requires { ⌜ n ≤ maxWorkers ⌝ }
 {
     state::run_plan(log, worker, event, n);
     lists::run_lists(log, worker, event, n);
     changes::run_changes(log, worker, event, n);
     lost::run_lost(log, worker, event, n);
     short::run_short(log, worker, event, n);
+    restores::run_restores(log, worker, event, n);
 }
 
-// The number that `accept` gives to the log, then each call.
+// The number that refuses the log, then each call.
 fn run_all(log: &[u8], worker: u32, event: u32) {
-    words::print_word(b"", accept::accept(log));
+    words::print_word(b"", planner::log_refusal(log));
     words::print(b"\n");
     let n = size(log);
     let short = words::one_less(n);

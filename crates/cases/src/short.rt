@@ -1,37 +1,37 @@
 // Step calls that are lent just enough words, or one too few.
 
-ghost use Prim.Native.Nat.{_≤_};
-ghost use lib.ListN.{length};
-
-fn step_in(log: &[u8], lent: usize, room: usize, plan: &[u32], positions: &mut [u32], w: u32) -> u32
-    requires { ⌜ (lent ≤ length (now plan)) × (room ≤ length (now positions)) ⌝ }
-{
-    replay::step(log, &plan[..lent], &mut positions[..room], w)
-}
+use super::words;
+ghost use Prim.Native.Nat.{_*_, _≤_};
+ghost use Rattle.log.specs.Limits.{maxWorkers};
 
 // A step of worker w with `lent` plan words and `room` positions.
-fn run_lent(log: &[u8], worker: u32, event: u32, n: usize, lent: usize, room: usize, w: u32)
-    requires { ⌜ (n ≤ 64) × (lent ≤ 192) × (room ≤ 64) ⌝ }
+fn run_lent(log: &[u8], plan: [u32; words::PLAN_LENT], n: usize, lent: usize, room: usize, w: u32)
+    requires { ⌜ (n ≤ maxWorkers) × (lent ≤ 3 * maxWorkers) × (room ≤ maxWorkers) ⌝ }
 {
-    let mut plan = [0u32; super::words::PLAN_LENT];
-    let mut positions = [0u32; super::words::LENT];
-    super::state::begin(log, worker, event, n, &mut plan, &mut positions);
-    let number = step_in(log, lent, room, &plan, &mut positions, w);
-    super::words::print_number(b"plan lent", lent as u64);
-    super::words::print_number(b" positions lent", room as u64);
-    super::words::print_word(b" step of", w);
-    super::words::print_word(b" answer", number);
-    super::words::print_after(0, n, &positions);
+    let mut positions = super::state::starts_of(n, plan);
+    let number = planner::step(
+        log,
+        words::first_read(&plan, lent),
+        words::first(&mut positions, room),
+        w,
+    );
+    words::print_count(b"plan lent", lent);
+    words::print_count(b" positions lent", room);
+    words::print_word(b" step of", w);
+    words::print_word(b" answer", number);
+    words::print_after(0, n, &positions);
 }
 
 pub(crate) fn run_short(log: &[u8], worker: u32, event: u32, n: usize)
-    requires { ⌜ n ≤ 64 ⌝ }
+    requires { ⌜ n ≤ maxWorkers ⌝ }
 {
+    let mut plan = [0u32; words::PLAN_LENT];
+    super::state::begin(log, worker, event, &mut plan);
     let all = 3 * n;
-    let few = super::words::one_less(all);
-    let short = super::words::one_less(n);
-    run_lent(log, worker, event, n, all, n, 0);
-    run_lent(log, worker, event, n, few, n, 0);
-    run_lent(log, worker, event, n, all, short, 0);
-    run_lent(log, worker, event, n, few, short, n as u32);
+    let few = words::one_less(all);
+    let short = words::one_less(n);
+    run_lent(log, plan, n, all, n, 0);
+    run_lent(log, plan, n, few, n, 0);
+    run_lent(log, plan, n, all, short, 0);
+    run_lent(log, plan, n, few, short, n as u32);
 }

@@ -1,62 +1,66 @@
 // The cut test, on the words that the lower cut leaves and on these with one word changed.
 
-ghost use Prim.Native.Nat.{_≤_};
-ghost use lib.ListN.{length};
+use super::words;
+ghost use Prim.Native.Nat.{_<_, _≤_};
+ghost use Rattle.log.specs.Limits.{maxWorkers};
 
 fn print_test(log: &[u8], words: &[u32]) {
-    let test = causality::cut_test(log, words);
-    super::words::print_word(b"", test.refusal);
-    if test.yes {
-        super::words::print(b" yes");
-        return;
-    }
-    super::words::print(b" no");
+    let mut answer = [super::sets::UNTOUCHED; 1];
+    let number = planner::cut_test(log, words, &mut answer);
+    words::print_word(b"", number);
+    super::sets::print_answer(number, answer[0]);
 }
 
-// Prints the test of the first `lent` words.
-fn print_part(log: &[u8], lent: usize, words: &[u32])
-    requires { ⌜ lent ≤ length (now words) ⌝ }
+// Prints the test with word w changed by a sum that wraps.
+fn print_changed(log: &[u8], words: [u32; words::LENT], w: usize, by: u32)
+    requires { ⌜ w < maxWorkers ⌝ }
 {
-    print_test(log, &words[..lent]);
+    let mut changed = words;
+    changed[w] = std::num::wrapping_add_u32(words[w], by);
+    print_test(log, &changed);
 }
 
-// Prints the test with each of the first n words in turn changed by a sum that wraps.
-fn run_changed(log: &[u8], n: usize, by: u32, words: &mut [u32])
-    requires { ⌜ n ≤ length (now words) ⌝ }
+// The same with each of the first n words in turn.
+fn run_changed(log: &[u8], words: [u32; words::LENT], n: usize, by: u32)
+    requires { ⌜ n ≤ maxWorkers ⌝ }
 {
     let mut w: usize = 0;
     while w < n {
-        let old = words[w];
-        words[w] = std::num::wrapping_add_u32(old, by);
-        print_test(log, words);
-        words[w] = old;
+        print_changed(log, words, w, by);
         w += 1;
     }
 }
 
-fn run_each(log: &[u8], n: usize, words: &mut [u32])
-    requires { ⌜ n ≤ length (now words) ⌝ }
+fn run_each(log: &[u8], words: [u32; words::LENT], n: usize)
+    requires { ⌜ n ≤ maxWorkers ⌝ }
 {
-    super::words::print(b"one less");
-    run_changed(log, n, 4294967295, words);
-    super::words::print(b"\none more");
-    run_changed(log, n, 1, words);
-    super::words::print(b"\n");
+    words::print(b"one less");
+    run_changed(log, words, n, 4294967295);
+    words::print(b"\none more");
+    run_changed(log, words, n, 1);
+    words::print(b"\n");
+}
+
+fn run_lent(log: &[u8], words: [u32; words::LENT], n: usize, short: usize)
+    requires { ⌜ (n ≤ maxWorkers) × (short ≤ n) ⌝ }
+{
+    words::print(b"cut test");
+    print_test(log, &words);
+    words::print(b"\njust enough words");
+    print_test(log, words::first_read(&words, n));
+    words::print(b"\none word too few");
+    print_test(log, words::first_read(&words, short));
+    words::print(b"\n");
 }
 
 pub(crate) fn run_tests(log: &[u8], worker: u32, event: u32, n: usize, short: usize)
-    requires { ⌜ (n ≤ 64) × (short ≤ n) ⌝ }
+    requires { ⌜ (n ≤ maxWorkers) × (short ≤ n) ⌝ }
 {
-    let mut words = [0u32; super::words::LENT];
-    let mut scratch = [0u32; super::words::ROOM];
-    super::words::fill(&mut words);
-    causality::lower_cut(log, worker, event, &mut words, &mut scratch);
-    super::words::print(b"cut test");
-    print_test(log, &words);
-    super::words::print(b"\njust enough words");
-    print_part(log, n, &words);
-    super::words::print(b"\none word too few");
-    print_part(log, short, &words);
-    super::words::print(b"\n");
-    run_each(log, n, &mut words);
+    let mut words = [0u32; words::LENT];
+    let mut scratch = [0u32; words::ROOM];
+    let mut totals = [0u64; 2];
+    words::fill(&mut words);
+    planner::lower_cut(log, worker, event, &mut words, &mut scratch, &mut totals);
+    run_lent(log, words, n, short);
+    run_each(log, words, n);
 }

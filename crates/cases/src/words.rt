@@ -5,22 +5,41 @@ ghost use mathlib.Core.Path.{_≡_};
 ghost use Prim.Native.Nat.{_≤_, _-_};
 ghost use lib.ListN.{length};
 
-// The words that are looked at after a call: of a vector, a cut, a line or positions, more than 64; of a plan, more than 3 × 64; and of the
-// scratch, more than 64 × 64.
-pub const LENT: usize = 72;
+// The words that are looked at after a call, 8 more than the largest log needs: of a vector, a cut, a line or positions; of a plan; and of
+// the scratch.
+pub const LENT: usize = log::MAX_WORKERS + 8;
 
-pub const PLAN_LENT: usize = 200;
+pub const PLAN_LENT: usize = 3 * log::MAX_WORKERS + 8;
 
-pub const ROOM: usize = 4104;
+pub const ROOM: usize = log::MAX_WORKERS * log::MAX_WORKERS + 8;
 
 // n - 1, and 0 for 0.
 pub(crate) fn one_less(n: usize) -> usize
-    ensures { λ r. ⌜ r ≡ n - 1 ⌝ }
+    ensures answer { λ r. ⌜ r ≡ n - 1 ⌝ }
 {
     if n == 0 {
         return 0;
     }
     n - 1
+}
+
+// The first n words, to lend.
+pub(crate) fn first(words: &mut [u32], n: usize) -> &mut [u32]
+    requires { ⌜ n ≤ length (now words) ⌝ }
+{
+    &mut words[..n]
+}
+
+pub(crate) fn first_read(words: &[u32], n: usize) -> &[u32]
+    requires { ⌜ n ≤ length (now words) ⌝ }
+{
+    &words[..n]
+}
+
+pub(crate) fn first_totals(totals: &mut [u64], n: usize) -> &mut [u64]
+    requires { ⌜ n ≤ length (now totals) ⌝ }
+{
+    &mut totals[..n]
 }
 
 // What word k holds before a call: a number over every event count.
@@ -60,14 +79,21 @@ pub(crate) fn print_number(name: &[u8], number: u64) {
     io::print_decimal(STDOUT_FILENO, number);
 }
 
-// The same of a 32-bit number.
+// The same of a 32-bit number, and of a number of words.
 pub(crate) fn print_word(name: &[u8], word: u32) {
     print_number(name, word as u64);
 }
 
-fn print_words(words: &[u32]) {
+pub(crate) fn print_count(name: &[u8], count: usize) {
+    print_number(name, count as u64);
+}
+
+// Prints the first n words.
+fn print_words(words: &[u32], n: usize)
+    requires { ⌜ n ≤ length (now words) ⌝ }
+{
     let mut k: usize = 0;
-    while k < words.len() {
+    while k < n {
         print_word(b"", words[k]);
         k += 1;
     }
@@ -85,7 +111,7 @@ pub(crate) fn print_unchanged(name: &[u8], words: &[u32], from: usize) {
 
 // The number of words that a call names: n, or none where it is refused.
 fn named(number: u32, n: usize) -> usize
-    ensures { λ r. ⌜ r ≤ n ⌝ }
+    ensures few { λ r. ⌜ r ≤ n ⌝ }
 {
     if number != 0 {
         return 0;
@@ -99,7 +125,7 @@ pub(crate) fn print_after(number: u32, n: usize, words: &[u32])
 {
     let count = named(number, n);
     print(b" words");
-    print_words(&words[..count]);
+    print_words(words, count);
     print_unchanged(b" others", words, count);
     print(b"\n");
 }
