@@ -1,31 +1,46 @@
 //! Calls of the exported functions, each compared with the reference on its number and on every lent word, with guard words
 //! before and behind.
 
+use crate::description::worker_count;
+use crate::failure::{self, Call, Difference, Meaning};
 use crate::random::Random;
 use reference::Log;
 use restore_planner::calls;
-use std::fmt::Debug;
 
 /// Guard words on each side of lent words.
 const GUARD: usize = 5;
 
+/// The totals of a lower cut.
+const CUT_TOTALS: Meaning = Meaning::Named(&["visits", "workers word"]);
+/// The totals of a plan.
+const PLAN_TOTALS: Meaning = Meaning::Named(&["visits", "events", "units", "workers word"]);
+
 /// Words that are lent, between guard words. All hold any numbers at first.
-#[derive(Clone, Debug, PartialEq)]
-pub struct Lent<T> {
+#[derive(Clone, Debug)]
+struct Lent<T> {
+    name: &'static str,
+    meaning: Meaning,
     cells: Vec<T>,
     length: usize,
 }
 
-impl<T: Copy + Default> Lent<T> {
-    fn any(random: &mut Random, length: usize, cell: fn(&mut Random) -> T) -> Lent<T> {
+impl<T: Copy + Default + PartialEq + Into<u64>> Lent<T> {
+    fn any(
+        random: &mut Random,
+        (name, meaning): (&'static str, Meaning),
+        length: usize,
+        cell: fn(&mut Random) -> T,
+    ) -> Lent<T> {
         Lent {
+            name,
+            meaning,
             cells: (0..length + 2 * GUARD).map(|_| cell(random)).collect(),
             length,
         }
     }
 
     /// The lent words.
-    pub fn lent(&mut self) -> &mut [T] {
+    fn lent(&mut self) -> &mut [T] {
         &mut self.cells[GUARD..GUARD + self.length]
     }
 
@@ -35,66 +50,92 @@ impl<T: Copy + Default> Lent<T> {
             self.lent().fill(T::default());
         }
     }
+
+    /// The first word, a guard word too, that is not as expected.
+    fn difference(&self, expected: &Lent<T>) -> Option<Difference> {
+        let name = |cell: usize| match cell.checked_sub(GUARD) {
+            None => format!("guard word {cell} before {}", self.name),
+            Some(index) if index < self.length => self.meaning.word(self.name, index),
+            Some(index) => format!("guard word {} behind {}", index - self.length, self.name),
+        };
+        failure::words(name, &self.cells, &expected.cells)
+    }
 }
 
 impl Lent<u32> {
-    fn words(random: &mut Random, length: usize) -> Lent<u32> {
-        Lent::any(random, length, Random::word)
+    fn words(random: &mut Random, name: &'static str, length: usize) -> Lent<u32> {
+        Lent::of(random, name, Meaning::Plain, length)
     }
 
-    fn holding(random: &mut Random, words: &[u32]) -> Lent<u32> {
-        let mut lent = Lent::words(random, words.len());
+    fn of(random: &mut Random, name: &'static str, meaning: Meaning, length: usize) -> Lent<u32> {
+        Lent::any(random, (name, meaning), length, Random::word)
+    }
+
+    fn holding(random: &mut Random, name: &'static str, words: &[u32]) -> Lent<u32> {
+        let mut lent = Lent::words(random, name, words.len());
         lent.lent().copy_from_slice(words);
         lent
     }
 }
 
-/// Fails where what the exported function did is not what the reference did. The log is left in a file.
-fn same<A: Debug, R: PartialEq + Debug>(
-    call: &str,
-    log: &[u8],
-    arguments: A,
-    given: R,
-    expected: R,
-) {
-    if given == expected {
-        return;
+impl Lent<u64> {
+    fn totals(random: &mut Random, meaning: Meaning, length: usize) -> Lent<u64> {
+        Lent::any(random, ("totals", meaning), length, Random::long)
     }
-    let file = std::env::temp_dir().join(format!("mismatch-{call}-{}.log", std::process::id()));
-    let kept = std::fs::write(&file, log);
-    panic!(
-        "{call} {arguments:?} of a log of {} bytes, in {} ({kept:?}):\ngiven    {given:?}\nexpected {expected:?}",
-        log.len(),
-        file.display()
-    );
+}
+
+/// The difference of the numbers returned.
+fn returned(found: u32, expected: u32) -> Option<Difference> {
+    failure::number("number returned", found, expected)
 }
 
 /// Compares the refusal of a log, and returns it.
-pub fn log_refusal(log: &[u8]) -> u32 {
+pub fn log_refusal(random: &Random, log: &[u8]) -> u32 {
     let number = calls::log_refusal(log);
-    same("log_refusal", log, (), number, reference::log_refusal(log));
+    let call = Call {
+        name: "log_refusal",
+        random,
+        log,
+        arguments: &[],
+    };
+    call.returned(number, reference::log_refusal(log));
     number
+}
+
+/// Compares the refusal of a log with the reference's and with the number that this log has to have.
+pub fn is_refused_by(random: &Random, log: &[u8], number: u32) {
+    let call = Call {
+        name: "log_refusal",
+        random,
+        log,
+        arguments: &[],
+    };
+    call.returned(log_refusal(random, log), number);
 }
 
 /// Compares a call that writes a line of n words for an event.
 fn line(
-    call: &str,
+    name: &'static str,
     exported: fn(&[u8], u32, u32, &mut [u32]) -> u32,
     expected: fn(&[u8], u32, u32, &mut [u32]) -> u32,
     random: &mut Random,
     (log, worker, event, words): (&[u8], u32, u32, usize),
 ) -> u32 {
-    let mut ours = Lent::words(random, words);
+    let mut ours = Lent::words(random, "words", words);
     let mut theirs = ours.clone();
     let number = exported(log, worker, event, ours.lent());
     let other = expected(log, worker, event, theirs.lent());
-    same(
-        call,
+    let call = Call {
+        name,
+        random,
         log,
-        (worker, event, words),
-        (number, ours),
-        (other, theirs),
-    );
+        arguments: &[
+            ("worker", worker.into()),
+            ("event", event.into()),
+            ("words", words as u64),
+        ],
+    };
+    call.same([returned(number, other), ours.difference(&theirs)]);
     number
 }
 
@@ -135,43 +176,44 @@ type WithTotals = fn(&[u8], u32, u32, &mut [u32], &mut [u32], &mut [u64]) -> u32
 
 /// Compares a call that writes words and totals for an event.
 fn with_totals(
-    call: &str,
+    (name, words, totals): (&'static str, Meaning, Meaning),
     exported: WithTotals,
     expected: WithTotals,
     random: &mut Random,
     (log, worker, event, lengths): (&[u8], u32, u32, Lengths),
 ) -> u32 {
     let mut ours = (
-        Lent::words(random, lengths.words),
-        Lent::words(random, lengths.scratch),
-        Lent::any(random, lengths.totals, Random::long),
+        Lent::of(random, "words", words, lengths.words),
+        Lent::words(random, "scratch", lengths.scratch),
+        Lent::totals(random, totals, lengths.totals),
     );
     let mut theirs = ours.clone();
-    let number = exported(
+    let call = |function: WithTotals, lent: &mut (Lent<u32>, Lent<u32>, Lent<u64>)| {
+        let (words, scratch, totals) = (lent.0.lent(), lent.1.lent(), lent.2.lent());
+        let number = function(log, worker, event, words, scratch, totals);
+        lent.1.forget_if(number == 0);
+        number
+    };
+    let number = call(exported, &mut ours);
+    let other = call(expected, &mut theirs);
+    let call = Call {
+        name,
+        random,
         log,
-        worker,
-        event,
-        ours.0.lent(),
-        ours.1.lent(),
-        ours.2.lent(),
-    );
-    let other = expected(
-        log,
-        worker,
-        event,
-        theirs.0.lent(),
-        theirs.1.lent(),
-        theirs.2.lent(),
-    );
-    ours.1.forget_if(number == 0);
-    theirs.1.forget_if(other == 0);
-    same(
-        call,
-        log,
-        (worker, event, lengths),
-        (number, ours),
-        (other, theirs),
-    );
+        arguments: &[
+            ("worker", worker.into()),
+            ("event", event.into()),
+            ("words", lengths.words as u64),
+            ("scratch", lengths.scratch as u64),
+            ("totals", lengths.totals as u64),
+        ],
+    };
+    call.same([
+        returned(number, other),
+        ours.0.difference(&theirs.0),
+        ours.1.difference(&theirs.1),
+        ours.2.difference(&theirs.2),
+    ]);
     number
 }
 
@@ -184,7 +226,7 @@ pub fn lower_cut(
     lengths: Lengths,
 ) -> u32 {
     with_totals(
-        "lower_cut",
+        ("lower_cut", Meaning::Plain, CUT_TOTALS),
         calls::lower_cut,
         reference::lower_cut,
         random,
@@ -195,7 +237,7 @@ pub fn lower_cut(
 /// Compares a plan.
 pub fn plan(random: &mut Random, log: &[u8], worker: u32, event: u32, lengths: Lengths) -> u32 {
     with_totals(
-        "plan",
+        ("plan", Meaning::Plan, PLAN_TOTALS),
         calls::plan,
         reference::plan,
         random,
@@ -203,35 +245,35 @@ pub fn plan(random: &mut Random, log: &[u8], worker: u32, event: u32, lengths: L
     )
 }
 
-/// Compares a cut test, with `yes` of this many words.
-pub fn cut_test(random: &mut Random, log: &[u8], words: &[u32], yes: usize) -> u32 {
-    let mut ours = Lent::words(random, yes);
+/// Compares a cut test, with an answer of this many words.
+pub fn cut_test(random: &mut Random, log: &[u8], words: &[u32], answer: usize) -> u32 {
+    let mut ours = Lent::words(random, "answer", answer);
     let mut theirs = ours.clone();
     let number = calls::cut_test(log, words, ours.lent());
     let other = reference::cut_test(log, words, theirs.lent());
-    same(
-        "cut_test",
+    let call = Call {
+        name: "cut_test",
+        random,
         log,
-        (words, yes),
-        (number, ours),
-        (other, theirs),
-    );
+        arguments: &[("words", words.len() as u64), ("answer", answer as u64)],
+    };
+    call.same([returned(number, other), ours.difference(&theirs)]);
     number
 }
 
-/// Compares the covering test of an identifier, with `yes` of this many words.
-pub fn covers(random: &mut Random, log: &[u8], identifier: u32, yes: usize) -> u32 {
-    let mut ours = Lent::words(random, yes);
+/// Compares the covering test of an identifier, with an answer of this many words.
+pub fn covers(random: &mut Random, log: &[u8], identifier: u32, answer: usize) -> u32 {
+    let mut ours = Lent::words(random, "answer", answer);
     let mut theirs = ours.clone();
     let number = calls::covers(log, identifier, ours.lent());
     let other = reference::covers(log, identifier, theirs.lent());
-    same(
-        "covers",
+    let call = Call {
+        name: "covers",
+        random,
         log,
-        (identifier, yes),
-        (number, ours),
-        (other, theirs),
-    );
+        arguments: &[("identifier", identifier.into()), ("answer", answer as u64)],
+    };
+    call.same([returned(number, other), ours.difference(&theirs)]);
     number
 }
 
@@ -243,19 +285,22 @@ pub fn step(
     positions: &[u32],
     worker: u32,
 ) -> (u32, Vec<u32>) {
-    let mut ours = Lent::holding(random, positions);
+    let mut ours = Lent::holding(random, "positions", positions);
     let mut theirs = ours.clone();
     let number = calls::step(log, plan, ours.lent(), worker);
     let other = reference::step(log, plan, theirs.lent(), worker);
-    let after = ours.lent().to_vec();
-    same(
-        "step",
+    let call = Call {
+        name: "step",
+        random,
         log,
-        (plan, positions, worker),
-        (number, ours),
-        (other, theirs),
-    );
-    (number, after)
+        arguments: &[
+            ("words", plan.len() as u64),
+            ("positions", positions.len() as u64),
+            ("worker", worker.into()),
+        ],
+    };
+    call.same([returned(number, other), ours.difference(&theirs)]);
+    (number, ours.lent().to_vec())
 }
 
 /// Compares a list of steps, with `answers` of this many words.
@@ -268,21 +313,274 @@ pub fn steps(
     answers: usize,
 ) -> u32 {
     let mut ours = (
-        Lent::holding(random, positions),
-        Lent::words(random, answers),
+        Lent::holding(random, "positions", positions),
+        Lent::words(random, "answers", answers),
     );
     let mut theirs = ours.clone();
     let number = calls::steps(log, plan, ours.0.lent(), workers, ours.1.lent());
     let other = reference::steps(log, plan, theirs.0.lent(), workers, theirs.1.lent());
-    same(
-        "steps",
+    let call = Call {
+        name: "steps",
+        random,
         log,
-        (plan, positions, workers, answers),
-        (number, ours),
-        (other, theirs),
-    );
+        arguments: &[
+            ("words", plan.len() as u64),
+            ("positions", positions.len() as u64),
+            ("workers", workers.len() as u64),
+            ("answers", answers as u64),
+        ],
+    };
+    call.same([
+        returned(number, other),
+        ours.1.difference(&theirs.1),
+        ours.0.difference(&theirs.0),
+    ]);
     number
 }
+
+/// How many words are lent to a plan with a list of steps.
+#[derive(Clone, Copy, Debug)]
+pub struct Room {
+    /// The words of the plan.
+    pub words: usize,
+    /// The scratch.
+    pub scratch: usize,
+    /// The positions.
+    pub positions: usize,
+    /// The answers and positions of the steps.
+    pub steps: usize,
+    /// The totals.
+    pub totals: usize,
+}
+
+impl Room {
+    /// Just enough for a log of n workers and a list of this length.
+    pub fn needed(n: usize, list: usize) -> Room {
+        Room {
+            words: 3 * n,
+            scratch: n * n,
+            positions: n,
+            steps: list * (n + 1),
+            totals: 4,
+        }
+    }
+
+    /// For a log of n workers and a list of this length: just enough or more, one of the five one word short, or each of any length.
+    fn any(random: &mut Random, n: usize, list: usize) -> Room {
+        let mut room = Room::needed(n, list);
+        let case = random.below(12);
+        for (at, length) in room.lengths().into_iter().enumerate() {
+            *length = match case {
+                5 => crate::compare::length(random, *length),
+                short if short == at => length.saturating_sub(1),
+                6..=8 => *length,
+                _ => *length + random.below(9),
+            };
+        }
+        room
+    }
+
+    fn lengths(&mut self) -> [&mut usize; 5] {
+        [
+            &mut self.words,
+            &mut self.scratch,
+            &mut self.positions,
+            &mut self.steps,
+            &mut self.totals,
+        ]
+    }
+}
+
+/// The words that are lent to a plan with a list of steps.
+#[derive(Clone, Debug)]
+struct Rooms {
+    words: Lent<u32>,
+    scratch: Lent<u32>,
+    positions: Lent<u32>,
+    steps: Lent<u32>,
+    totals: Lent<u64>,
+}
+
+impl Rooms {
+    fn any(random: &mut Random, workers: usize, room: Room) -> Rooms {
+        Rooms {
+            words: Lent::of(random, "words", Meaning::Plan, room.words),
+            scratch: Lent::words(random, "scratch", room.scratch),
+            positions: Lent::words(random, "positions", room.positions),
+            steps: Lent::of(random, "steps", Meaning::Steps(workers), room.steps),
+            totals: Lent::totals(random, PLAN_TOTALS, room.totals),
+        }
+    }
+
+    fn differences(&self, expected: &Rooms) -> [Option<Difference>; 5] {
+        [
+            self.words.difference(&expected.words),
+            self.totals.difference(&expected.totals),
+            self.steps.difference(&expected.steps),
+            self.positions.difference(&expected.positions),
+            self.scratch.difference(&expected.scratch),
+        ]
+    }
+}
+
+/// Compares a plan with a list of steps, and where it is not refused tests what it wrote.
+pub fn restore_and_replay(
+    random: &mut Random,
+    log: &[u8],
+    worker: u32,
+    event: u32,
+    workers: &[u32],
+    room: Room,
+) -> Replayed {
+    let n = worker_count(log);
+    let mut ours = Rooms::any(random, n, room);
+    let mut theirs = ours.clone();
+    let before = ours.clone();
+    let number = calls::restore_and_replay(
+        log,
+        worker,
+        event,
+        workers,
+        ours.words.lent(),
+        ours.scratch.lent(),
+        ours.positions.lent(),
+        ours.steps.lent(),
+        ours.totals.lent(),
+    );
+    let other = reference::restore_and_replay(
+        log,
+        worker,
+        event,
+        workers,
+        theirs.words.lent(),
+        theirs.scratch.lent(),
+        theirs.positions.lent(),
+        theirs.steps.lent(),
+        theirs.totals.lent(),
+    );
+    let call = Call {
+        name: "restore_and_replay",
+        random,
+        log,
+        arguments: &[
+            ("worker", worker.into()),
+            ("event", event.into()),
+            ("workers", workers.len() as u64),
+            ("words", room.words as u64),
+            ("scratch", room.scratch as u64),
+            ("positions", room.positions as u64),
+            ("steps", room.steps as u64),
+            ("totals", room.totals as u64),
+        ],
+    };
+    call.returned(number, other);
+    if number != 0 {
+        // Refused: nothing that is lent changes.
+        call.same(ours.differences(&before));
+        return Replayed::Refused(number);
+    }
+    ours.scratch.forget_if(true);
+    theirs.scratch.forget_if(true);
+    call.same(ours.differences(&theirs));
+    Replayed::Steps(Counted::new(
+        &call,
+        &ours.words.lent()[..3 * n],
+        &ours.positions.lent()[..n],
+        &ours.steps.lent()[..workers.len() * (n + 1)],
+        ours.totals.lent()[1],
+    ))
+}
+
+/// A plan with a list of steps, as the exported function answered it.
+#[derive(Clone, Copy, Debug, PartialEq)]
+pub enum Replayed {
+    /// It was refused by this number.
+    Refused(u32),
+    /// The steps were made.
+    Steps(Counted),
+}
+
+impl Replayed {
+    /// The number that was returned.
+    pub fn number(self) -> u32 {
+        match self {
+            Replayed::Refused(number) => number,
+            Replayed::Steps(_) => 0,
+        }
+    }
+}
+
+/// The steps of a list, counted in the words returned.
+#[derive(Clone, Copy, Debug, PartialEq)]
+pub struct Counted {
+    /// The steps that were done.
+    pub done: u64,
+    /// Those that were refused.
+    pub refused: u64,
+    /// Whether all positions are at their cuts after the list.
+    pub is_finished: bool,
+}
+
+impl Counted {
+    /// Counts the steps in the words returned. After each step the done ones number the events returned exactly when all positions
+    /// are at their cuts; the last step's positions, or the starts, are those after the list.
+    fn new(call: &Call, plan: &[u32], positions: &[u32], steps: &[u32], events: u64) -> Counted {
+        let at_cuts =
+            |positions: &[u32]| plan.chunks(3).map(|w| w[0]).eq(positions.iter().copied());
+        let mut after: Vec<u32> = plan.chunks(3).map(|w| w[1]).collect();
+        let mut done = 0;
+        let mut refused = 0;
+        let finished = |done: u64, after: &[u32]| {
+            call.holds((done == events) == at_cuts(after), || {
+                format!(
+                    "{done} of {events} events are done and all are at their cuts: {}",
+                    at_cuts(after)
+                )
+            });
+        };
+        finished(done, &after);
+        for row in steps.chunks(positions.len() + 1) {
+            match row[0] {
+                0 => done += 1,
+                _ => refused += 1,
+            }
+            after.copy_from_slice(&row[1..]);
+            finished(done, &after);
+        }
+        let name = |w| format!("positions[{w}] after the list");
+        call.same([failure::words(name, positions, &after)]);
+        Counted {
+            done,
+            refused,
+            is_finished: at_cuts(positions),
+        }
+    }
+}
+
+/// A list of worker numbers for the plan of an event: none, some of the log's workers, some that may be no worker's, or one that
+/// replays the whole plan, with other numbers within.
+fn list(random: &mut Random, log: &[u8], accepted: &Log, at: (u32, u32)) -> Vec<u32> {
+    let n = accepted.size();
+    let length = random.below(40);
+    match random.below(8) {
+        0 => return Vec::new(),
+        1 | 2 => return (0..length).map(|_| random.below(n) as u32).collect(),
+        3 | 4 => return (0..length).map(|_| worker(random, accepted)).collect(),
+        _ => (),
+    }
+    let whole = State::planned(log, at.0, at.1).and_then(|state| state.replay(accepted));
+    let mut list = whole.unwrap_or_default();
+    // Each step tests the whole log.
+    list.truncate(MOST_BYTES / log.len());
+    for _ in 0..random.pick(&[0, 0, 1, 5]) {
+        let place = random.below(list.len() + 1);
+        list.insert(place, worker(random, accepted));
+    }
+    list
+}
+
+/// The most bytes that the steps of a list together test.
+const MOST_BYTES: usize = 10_000_000;
 
 /// A number of words to lend where `needed` are needed: most often enough.
 pub fn length(random: &mut Random, needed: usize) -> usize {
@@ -333,8 +631,7 @@ impl State {
         if number != 0 {
             return None;
         }
-        let n = usize::from(log[2]);
-        plan.truncate(3 * n);
+        plan.truncate(3 * worker_count(log));
         let positions = plan.chunks(3).map(|w| w[1]).collect();
         Some(State { plan, positions })
     }
@@ -429,37 +726,72 @@ impl State {
     }
 }
 
-/// The numbers that calls returned, by how often.
+/// The numbers that calls returned, by how often, and the lists of steps that ended at the cuts and that did not.
 #[derive(Clone, Debug, Default)]
-pub struct Seen(Vec<u64>);
+pub struct Seen {
+    numbers: Vec<u64>,
+    restored: Vec<u64>,
+    finished: u64,
+    unfinished: u64,
+    refused_steps: u64,
+}
+
+/// Counts a number.
+fn count(numbers: &mut Vec<u64>, number: u32) {
+    let at = number as usize;
+    if numbers.len() <= at {
+        numbers.resize(at + 1, 0);
+    }
+    numbers[at] += 1;
+}
+
+/// Fails where one of the numbers was never counted.
+fn has(counts: &[u64], numbers: impl IntoIterator<Item = u32>) {
+    for number in numbers {
+        let times = counts.get(number as usize).copied().unwrap_or(0);
+        assert!(times > 0, "no call returned {number}: {counts:?}");
+    }
+}
 
 impl Seen {
     /// Counts a number.
     pub fn add(&mut self, number: u32) {
-        let at = number as usize;
-        if self.0.len() <= at {
-            self.0.resize(at + 1, 0);
+        count(&mut self.numbers, number);
+    }
+
+    /// Counts a plan with a list of steps.
+    pub fn add_replayed(&mut self, replayed: Replayed) {
+        count(&mut self.restored, replayed.number());
+        if let Replayed::Steps(counted) = replayed {
+            // An empty replay ends where it begins.
+            self.finished += u64::from(counted.is_finished && counted.done > 0);
+            self.unfinished += u64::from(!counted.is_finished);
+            self.refused_steps += counted.refused;
         }
-        self.0[at] += 1;
     }
 
     /// Fails where one of the numbers was never returned, so that a test that has stopped to reach its cases is noticed.
     pub fn has(&self, numbers: impl IntoIterator<Item = u32>) {
-        for number in numbers {
-            let times = self.0.get(number as usize).copied().unwrap_or(0);
-            assert!(times > 0, "no call returned {number}: {:?}", self.0);
-        }
+        has(&self.numbers, numbers);
+    }
+
+    /// Fails where no plan with a list of steps returned one of the numbers, or where none ended at the cuts after done steps, none
+    /// ended before, or no step was refused.
+    pub fn has_replayed(&self, numbers: impl IntoIterator<Item = u32>) {
+        has(&self.restored, numbers);
+        let cases = [self.finished, self.unfinished, self.refused_steps];
+        assert!(cases.iter().all(|&times| times > 0), "{cases:?}");
     }
 }
 
 /// Compares every call on a log, each with arguments of any value.
 pub fn every_call(random: &mut Random, log: &[u8], seen: &mut Seen) {
-    let number = log_refusal(log);
-    seen.add(number);
+    seen.add(log_refusal(random, log));
     match reference::accept(log) {
         Ok(accepted) => {
             events(random, log, &accepted, seen);
             states(random, log, &accepted, seen);
+            replays(random, log, &accepted, seen);
             tests(random, log, &accepted, seen);
         }
         Err(_) => refused(random, log),
@@ -475,19 +807,20 @@ fn refused(random: &mut Random, log: &[u8]) {
     let plan: Vec<u32> = (0..3 * n).map(|_| random.word()).collect();
     let positions: Vec<u32> = (0..n).map(|_| random.word()).collect();
     step(random, log, &plan, &positions, worker);
-    {
-        let lengths = Lengths {
-            words: 3 * n,
-            scratch: n * n,
-            totals: random.below(5),
-        };
-        upper_line(random, log, worker, event, n);
-        lower_cut(random, log, worker, event, lengths);
-        crate::compare::plan(random, log, worker, event, lengths);
-        cut_test(random, log, &positions, n.min(2));
-        covers(random, log, worker, n.min(2));
-        steps(random, log, &plan, &positions, &[0, 1, 2], 4);
-    }
+    let lengths = Lengths {
+        words: 3 * n,
+        scratch: n * n,
+        totals: random.below(5),
+    };
+    upper_line(random, log, worker, event, n);
+    lower_cut(random, log, worker, event, lengths);
+    crate::compare::plan(random, log, worker, event, lengths);
+    cut_test(random, log, &positions, n.min(2));
+    covers(random, log, worker, n.min(2));
+    steps(random, log, &plan, &positions, &[0, 1, 2], 4);
+    let list: Vec<u32> = (0..random.below(4)).map(|_| random.word()).collect();
+    let room = Room::any(random, n, list.len());
+    restore_and_replay(random, log, worker, event, &list, room);
 }
 
 /// Compares the calls that are given an event.
@@ -498,21 +831,19 @@ fn events(random: &mut Random, log: &[u8], accepted: &Log, seen: &mut Seen) {
         let e = event(random, accepted, w);
         let words = length(random, n);
         seen.add(vector(random, log, w, e, words));
-        {
-            seen.add(upper_line(random, log, w, e, words));
-            let lengths = Lengths {
-                words: length(random, n),
-                scratch: length(random, n * n),
-                totals: length(random, 2),
-            };
-            seen.add(lower_cut(random, log, w, e, lengths));
-            let lengths = Lengths {
-                words: length(random, 3 * n),
-                scratch: length(random, n * n),
-                totals: length(random, 4),
-            };
-            seen.add(plan(random, log, w, e, lengths));
-        }
+        seen.add(upper_line(random, log, w, e, words));
+        let lengths = Lengths {
+            words: length(random, n),
+            scratch: length(random, n * n),
+            totals: length(random, 2),
+        };
+        seen.add(lower_cut(random, log, w, e, lengths));
+        let lengths = Lengths {
+            words: length(random, 3 * n),
+            scratch: length(random, n * n),
+            totals: length(random, 4),
+        };
+        seen.add(plan(random, log, w, e, lengths));
     }
 }
 
@@ -530,15 +861,24 @@ fn states(random: &mut Random, log: &[u8], accepted: &Log, seen: &mut Seen) {
     let workers: Vec<u32> = (0..random.below(24))
         .map(|_| worker(random, accepted))
         .collect();
-    {
-        let answers = length(random, workers.len());
-        let State { plan, positions } = &state;
-        seen.add(steps(random, log, plan, positions, &workers, answers));
-    }
+    let answers = length(random, workers.len());
+    let State { plan, positions } = &state;
+    seen.add(steps(random, log, plan, positions, &workers, answers));
     for w in workers {
         let (answer, after) = step(random, log, &state.plan, &state.positions, w);
         seen.add(answer);
         state.positions = after;
+    }
+}
+
+/// Compares plans with a list of steps.
+fn replays(random: &mut Random, log: &[u8], accepted: &Log, seen: &mut Seen) {
+    for _ in 0..2 {
+        let w = worker(random, accepted);
+        let e = event(random, accepted, w);
+        let list = list(random, log, accepted, (w, e));
+        let room = Room::any(random, accepted.size(), list.len());
+        seen.add_replayed(restore_and_replay(random, log, w, e, &list, room));
     }
 }
 
@@ -570,8 +910,8 @@ fn tests(random: &mut Random, log: &[u8], accepted: &Log, seen: &mut Seen) {
     }
     words.extend([u32::MAX; 3]);
     words.truncate(length(random, n));
-    let yes = random.pick(&[0, 1, 1, 1, 2, 3]);
-    seen.add(cut_test(random, log, &words, yes));
+    let answer = random.pick(&[0, 1, 1, 1, 2, 3]);
+    seen.add(cut_test(random, log, &words, answer));
 
     let recorded: Vec<u32> = accepted
         .workers
@@ -584,7 +924,7 @@ fn tests(random: &mut Random, log: &[u8], accepted: &Log, seen: &mut Seen) {
         identifiers.extend((0..3).map(|_| random.pick(&recorded)));
     }
     for identifier in identifiers {
-        let yes = random.pick(&[0, 1, 1, 1, 2, 3]);
-        seen.add(covers(random, log, identifier, yes));
+        let answer = random.pick(&[0, 1, 1, 1, 2, 3]);
+        seen.add(covers(random, log, identifier, answer));
     }
 }

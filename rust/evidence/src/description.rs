@@ -91,6 +91,14 @@ pub fn get(log: &[u8], at: usize) -> u32 {
     u32::from_le_bytes([log[at], log[at + 1], log[at + 2], log[at + 3]])
 }
 
+/// The worker count in the header of a log; 0 where the log is too short to have one.
+pub fn worker_count(log: &[u8]) -> usize {
+    match log {
+        [_, _, low, high, ..] => usize::from(u16::from_le_bytes([*low, *high])),
+        _ => 0,
+    }
+}
+
 impl Description {
     /// The tube log of document 01.
     pub fn tube() -> Description {

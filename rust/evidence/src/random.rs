@@ -1,22 +1,47 @@
 //! Seeded numbers (splitmix64).
 
-/// A sequence of numbers that its seed determines.
+use std::fmt;
+
+/// A sequence of numbers that its seed and its round determine. A test makes one for each of its rounds, so a round that fails can
+/// be run alone.
 #[derive(Clone, Debug)]
-pub struct Random(u64);
+pub struct Random {
+    state: u64,
+    seed: u64,
+    round: u64,
+}
+
+impl fmt::Display for Random {
+    fn fmt(&self, f: &mut fmt::Formatter<'_>) -> fmt::Result {
+        write!(f, "seed {}, round {}", self.seed, self.round)
+    }
+}
+
+fn mixed(mut z: u64) -> u64 {
+    z = (z ^ (z >> 30)).wrapping_mul(0xbf58_476d_1ce4_e5b9);
+    z = (z ^ (z >> 27)).wrapping_mul(0x94d0_49bb_1331_11eb);
+    z ^ (z >> 31)
+}
 
 impl Random {
-    /// The sequence of a seed.
+    /// The sequence of a seed, in round 0.
     pub fn new(seed: u64) -> Random {
-        Random(seed)
+        Random::round(seed, 0)
+    }
+
+    /// The sequence of a seed in a round.
+    pub fn round(seed: u64, round: u64) -> Random {
+        Random {
+            state: seed.wrapping_add(mixed(round)),
+            seed,
+            round,
+        }
     }
 
     /// The next 64 bits.
     pub fn long(&mut self) -> u64 {
-        self.0 = self.0.wrapping_add(0x9e37_79b9_7f4a_7c15);
-        let mut z = self.0;
-        z = (z ^ (z >> 30)).wrapping_mul(0xbf58_476d_1ce4_e5b9);
-        z = (z ^ (z >> 27)).wrapping_mul(0x94d0_49bb_1331_11eb);
-        z ^ (z >> 31)
+        self.state = self.state.wrapping_add(0x9e37_79b9_7f4a_7c15);
+        mixed(self.state)
     }
 
     /// The next 32 bits.

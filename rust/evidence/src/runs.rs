@@ -1,6 +1,6 @@
 //! Logs of simulated runs, and logs of a given shape.
 
-use crate::description::{get, put, Description, Event, Worker, MAX_LOG};
+use crate::description::{get, put, worker_count, Description, Event, Worker, MAX_LOG};
 use crate::random::Random;
 
 /// What a simulated run is like. Shares are of 1,000.
@@ -210,7 +210,7 @@ pub fn any_log(random: &mut Random, workers: usize, events: usize) -> Vec<u8> {
 /// Points an empty section at any bytes of the log that happen to be a record that may stand there: bytes of other records, of a
 /// gap, and of no record's own place.
 fn share_any_bytes(log: &mut [u8], random: &mut Random) {
-    let n = usize::from(log[2]);
+    let n = worker_count(log);
     let w = random.below(n);
     let entry = 8 + 20 * w;
     let of_events = random.chance(500);

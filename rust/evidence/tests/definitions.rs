@@ -1,6 +1,7 @@
 //! The reference against the definitions of document 01, taken literally, on small logs.
 
 use evidence::description::{Description, Worker};
+use evidence::failure::{words, Call, Difference, Meaning};
 use evidence::random::Random;
 use evidence::runs::{run, Shape};
 
@@ -212,16 +213,17 @@ fn small(random: &mut Random) -> Description {
 
 #[test]
 fn every_event_of_small_logs() {
-    let mut random = Random::new(1);
     let mut lowered = 0;
-    for _ in 0..1_500 {
+    for round in 0..1_500 {
+        let mut random = Random::round(1, round);
         let description = small(&mut random);
         let log = description.pack();
         let model = Model::new(description);
-        assert_eq!(reference::log_refusal(&log), 0);
+        call(&random, &log, "reference::log_refusal", &[])
+            .returned(reference::log_refusal(&log), 0);
         for i in 0..model.workers.len() {
             for e in 1..=model.count(i) {
-                lowered += one_event(&model, &log, i, e);
+                lowered += one_event(&model, &log, &random, i, e);
             }
         }
         tests(&model, &log, &mut random);
@@ -229,14 +231,51 @@ fn every_event_of_small_logs() {
     assert!(lowered > 1_000, "few starts below the latest: {lowered}");
 }
 
+/// A call of the reference, for what a failure prints.
+fn call<'a>(
+    random: &'a Random,
+    log: &'a [u8],
+    name: &'static str,
+    arguments: &'a [(&'static str, u64)],
+) -> Call<'a> {
+    Call {
+        name,
+        random,
+        log,
+        arguments,
+    }
+}
+
+/// The difference of words of a slice.
+fn differ<T: Copy + PartialEq + Into<u64>>(
+    (slice, meaning): (&str, Meaning),
+    found: &[T],
+    expected: &[T],
+) -> Option<Difference> {
+    words(|index| meaning.word(slice, index), found, expected)
+}
+
+const WORDS: (&str, Meaning) = ("words", Meaning::Plain);
+const PLAN: (&str, Meaning) = ("words", Meaning::Plan);
+const POSITIONS: (&str, Meaning) = ("positions", Meaning::Plain);
+const ANSWER: (&str, Meaning) = ("answer", Meaning::Plain);
+const CUT_TOTALS: (&str, Meaning) = ("totals", Meaning::Named(&["visits", "workers word"]));
+const PLAN_TOTALS: (&str, Meaning) = (
+    "totals",
+    Meaning::Named(&["visits", "events", "units", "workers word"]),
+);
+
 /// Compares what the reference says of an event; 1 where some start is not the latest checkpoint.
-fn one_event(model: &Model, log: &[u8], i: usize, e: u32) -> usize {
+fn one_event(model: &Model, log: &[u8], random: &Random, i: usize, e: u32) -> usize {
     let n = model.workers.len();
     let (worker, event) = (i as u32, e);
+    let at = [("worker", worker.into()), ("event", event.into())];
+    let call = |name| call(random, log, name, &at);
     let mut words = vec![0; n];
-    assert_eq!(reference::vector(log, worker, event, &mut words), 0);
+    let number = reference::vector(log, worker, event, &mut words);
+    call("reference::vector").returned(number, 0);
     let vector: Vec<u32> = (0..n).map(|k| model.component(i, e, k)).collect();
-    assert_eq!(words, vector);
+    call("reference::vector").same([differ(WORDS, &words, &vector)]);
 
     let mut cut = vec![0; n];
     cut[i] = e;
@@ -245,22 +284,31 @@ fn one_event(model: &Model, log: &[u8], i: usize, e: u32) -> usize {
     for (w, &c) in cut.iter().enumerate() {
         for x in 1..=model.count(w) {
             let within = (w, x) == (i, e) || model.happened_before((w, x), (i, e));
-            assert_eq!(x <= c, within);
+            call("Figure 2").holds((x <= c) == within, || {
+                format!("cut[{w}] is {c}, and that {w}/{x} is within is {within}")
+            });
         }
     }
-    assert!(model.is_consistent(&cut));
+    call("Figure 2").holds(model.is_consistent(&cut), || {
+        "the cut is not consistent".to_string()
+    });
     let bits = (0..n).filter(|&w| cut[w] > 0).fold(0, |b, w| b | 1u64 << w);
     let (mut scratch, mut totals) = (vec![0; n * n], [0; 2]);
-    assert_eq!(
-        reference::lower_cut(log, worker, event, &mut words, &mut scratch, &mut totals),
-        0
-    );
-    assert_eq!((&words, totals), (&cut, [visits, bits]));
+    let number = reference::lower_cut(log, worker, event, &mut words, &mut scratch, &mut totals);
+    call("reference::lower_cut").returned(number, 0);
+    call("reference::lower_cut").same([
+        differ(WORDS, &words, &cut),
+        differ(CUT_TOTALS, &totals, &[visits, bits]),
+    ]);
 
-    assert_eq!(reference::upper_line(log, worker, event, &mut words), 0);
+    let number = reference::upper_line(log, worker, event, &mut words);
+    call("reference::upper_line").returned(number, 0);
     for (w, &line) in words.iter().enumerate() {
         for x in 1..=model.count(w) {
-            assert_eq!(x > line, model.happened_before((i, e), (w, x)));
+            let behind = model.happened_before((i, e), (w, x));
+            call("reference::upper_line").holds((x > line) == behind, || {
+                format!("words[{w}] is {line}, and that {worker}/{event} happened before {w}/{x} is {behind}")
+            });
         }
     }
 
@@ -270,28 +318,90 @@ fn one_event(model: &Model, log: &[u8], i: usize, e: u32) -> usize {
         .filter(|starts| model.is_startable(&cut, starts))
         .collect();
     for starts in &choices {
-        assert_eq!(model.is_startable(&cut, starts), model.works(&cut, starts));
+        let (startable, works) = (model.is_startable(&cut, starts), model.works(&cut, starts));
+        call("a choice").holds(startable == works, || {
+            format!("that {starts:?} is startable is {startable}, that it works is {works}")
+        });
     }
     let latest: Vec<u32> = (0..n)
         .map(|w| startable.iter().map(|starts| starts[w]).max().unwrap())
         .collect();
-    assert!(startable.contains(&&latest));
+    call("a choice").holds(startable.contains(&&latest), || {
+        format!("the latest starts {latest:?} are not startable")
+    });
     let expected: Vec<u32> = (0..n)
         .flat_map(|w| [cut[w], latest[w], model.identifier(w, latest[w])])
         .collect();
     let events: u64 = (0..n).map(|w| u64::from(cut[w] - latest[w])).sum();
     let (mut plan, mut totals) = (vec![0; 3 * n], [0; 4]);
-    assert_eq!(
-        reference::plan(log, worker, event, &mut plan, &mut scratch, &mut totals),
-        0
+    let number = reference::plan(log, worker, event, &mut plan, &mut scratch, &mut totals);
+    call("reference::plan").returned(number, 0);
+    let counted = [visits, events, model.units(&cut, &latest), bits];
+    call("reference::plan").same([
+        differ(PLAN, &plan, &expected),
+        differ(PLAN_TOTALS, &totals, &counted),
+    ]);
+    plan_and_steps(
+        model,
+        &call("reference::restore_and_replay"),
+        (worker, event),
+        (&expected, &totals),
     );
-    assert_eq!(plan, expected);
-    assert_eq!(totals, [visits, events, model.units(&cut, &latest), bits]);
     usize::from(
         choices
             .iter()
             .any(|starts| (0..n).any(|w| starts[w] > latest[w])),
     )
+}
+
+/// Compares a plan with steps of all workers in turn, of a number that is no worker's too, until all are at their cuts.
+fn plan_and_steps(
+    model: &Model,
+    call: &Call,
+    (worker, event): (u32, u32),
+    (plan, totals): (&[u32], &[u64; 4]),
+) {
+    let n = model.workers.len();
+    let cut: Vec<u32> = plan.chunks(3).map(|w| w[0]).collect();
+    let starts: Vec<u32> = plan.chunks(3).map(|w| w[1]).collect();
+    let mut positions = starts.clone();
+    let mut list = Vec::new();
+    let mut expected = Vec::new();
+    while positions != cut {
+        for w in 0..=n {
+            let answer = if w == n {
+                12
+            } else {
+                model.answer(&cut, &starts, &positions, w)
+            };
+            if answer == 0 {
+                positions[w] += 1;
+            }
+            list.push(w as u32);
+            expected.push(answer);
+            expected.extend(&positions);
+        }
+    }
+    let (mut words, mut scratch, mut after) = (vec![0; 3 * n], vec![0; n * n], vec![0; n]);
+    let (mut steps, mut counted) = (vec![0; expected.len()], [0; 4]);
+    let number = reference::restore_and_replay(
+        call.log,
+        worker,
+        event,
+        &list,
+        &mut words,
+        &mut scratch,
+        &mut after,
+        &mut steps,
+        &mut counted,
+    );
+    call.returned(number, 0);
+    call.same([
+        differ(PLAN, &words, plan),
+        differ(PLAN_TOTALS, &counted, totals),
+        differ(("steps", Meaning::Steps(n)), &steps, &expected),
+        differ(POSITIONS, &after, &positions),
+    ]);
 }
 
 /// Compares cut tests, covering tests and steps from any state.
@@ -302,8 +412,12 @@ fn tests(model: &Model, log: &[u8], random: &mut Random) {
         let cut: Vec<u32> = (0..n)
             .map(|w| random.within(0, model.count(w) as usize) as u32)
             .collect();
-        assert_eq!(reference::cut_test(log, &cut, &mut yes), 0);
-        assert_eq!(yes[0] == 1, model.is_consistent(&cut));
+        let number = reference::cut_test(log, &cut, &mut yes);
+        let expected = [u32::from(model.is_consistent(&cut))];
+        let arguments = [("words", n as u64)];
+        let test = call(random, log, "reference::cut_test", &arguments);
+        test.returned(number, 0);
+        test.same([differ(ANSWER, &yes, &expected)]);
 
         let starts: Vec<u32> = cut
             .iter()
@@ -317,13 +431,19 @@ fn tests(model: &Model, log: &[u8], random: &mut Random) {
             let w = random.below(n);
             let answer = model.answer(&cut, &starts, &positions, w);
             let mut after = positions.clone();
-            assert_eq!(reference::step(log, &plan, &mut after, w as u32), answer);
+            let number = reference::step(log, &plan, &mut after, w as u32);
             positions[w] += u32::from(answer == 0);
-            assert_eq!(after, positions);
+            let arguments = [("worker", w as u64)];
+            let step = call(random, log, "reference::step", &arguments);
+            step.returned(number, answer);
+            step.same([differ(POSITIONS, &after, &positions)]);
         }
     }
     for t in 0..12 {
-        assert_eq!(reference::covers(log, t, &mut yes), 0);
-        assert_eq!(yes[0] == 1, model.covers(t), "identifier {t}");
+        let number = reference::covers(log, t, &mut yes);
+        let arguments = [("identifier", t.into())];
+        let test = call(random, log, "reference::covers", &arguments);
+        test.returned(number, 0);
+        test.same([differ(ANSWER, &yes, &[u32::from(model.covers(t))])]);
     }
 }

@@ -11,6 +11,8 @@ type CutTest = fn(&[u8], &[u32], &mut [u32]) -> u32;
 type Covers = fn(&[u8], u32, &mut [u32]) -> u32;
 type Step = fn(&[u8], &[u32], &mut [u32], u32) -> u32;
 type Steps = fn(&[u8], &[u32], &mut [u32], &[u32], &mut [u32]) -> u32;
+type RestoreAndReplay =
+    fn(&[u8], u32, u32, &[u32], &mut [u32], &mut [u32], &mut [u32], &mut [u32], &mut [u64]) -> u32;
 
 /// The plan of 0/2: cut, start, identifier of each worker.
 const PLAN: [u32; 9] = [2, 1, 1, 3, 1, 1, 2, 0, 0];
@@ -110,6 +112,55 @@ fn list_of_steps(steps: Steps) {
     );
 }
 
+/// The plan of 0/2 with a list of steps that brings every position to its cut, and with the empty list.
+fn plan_and_steps(restore_and_replay: RestoreAndReplay) {
+    let (mut words, mut positions, mut totals) = ([9; 10], [9; 4], [9; 5]);
+    let mut steps = [9; 41];
+    let mut call = |workers: &[u32], room: usize| {
+        let number = restore_and_replay(
+            TUBE,
+            0,
+            2,
+            workers,
+            &mut words,
+            &mut [0; 9],
+            &mut positions,
+            &mut steps[..room],
+            &mut totals,
+        );
+        (number, words, positions, totals, steps)
+    };
+    let workers = [2, 2, 2, 0, 1, 1, 3, 1, 0, 0];
+    let unchanged = (14, [9; 10], [9; 4], [9; 5], [9; 41]);
+    assert_eq!(call(&workers, 39), unchanged);
+
+    let mut planned = [9; 10];
+    planned[..9].copy_from_slice(&PLAN);
+    let (number, words, positions, totals, steps) = call(&[], 0);
+    assert_eq!((number, words), (0, planned));
+    assert_eq!((positions, steps), ([1, 1, 0, 9], [9; 41]));
+    assert_eq!(totals, [3, 5, 15, 7, 9]);
+
+    let (number, words, positions, totals, steps) = call(&workers, 41);
+    assert_eq!((number, words), (0, planned));
+    assert_eq!(positions, [2, 3, 2, 9]);
+    assert_eq!(totals, [3, 5, 15, 7, 9]);
+    let (rows, rest) = steps.as_chunks::<4>();
+    let expected = [
+        [0, 1, 1, 1],
+        [0, 1, 1, 2],
+        [21, 1, 1, 2],
+        [22, 1, 1, 2],
+        [0, 1, 2, 2],
+        [0, 1, 3, 2],
+        [12, 1, 3, 2],
+        [21, 1, 3, 2],
+        [0, 2, 3, 2],
+        [21, 2, 3, 2],
+    ];
+    assert_eq!((rows, rest), (&expected[..], &[9][..]));
+}
+
 fn t10(covers: Covers) {
     let mut yes = [9; 2];
     for (identifier, answer) in [(0, 1), (1, 1), (2, 0)] {
@@ -135,6 +186,7 @@ fn reference_values() {
     t9(reference::step);
     t10(reference::covers);
     list_of_steps(reference::steps);
+    plan_and_steps(reference::restore_and_replay);
 }
 
 #[test]
@@ -142,15 +194,12 @@ fn exported_values() {
     assert_eq!(calls::log_refusal(TUBE), 0);
     assert_eq!(calls::log_refusal(&with_data_logged()), 0);
     t1_to_t3(calls::vector);
-    t9(calls::step);
-}
-
-#[test]
-fn exported_values_of_plans() {
     t4(calls::lower_cut);
     t5(calls::upper_line);
     t6_and_t7(calls::plan);
     t8(calls::cut_test);
+    t9(calls::step);
     t10(calls::covers);
     list_of_steps(calls::steps);
+    plan_and_steps(calls::restore_and_replay);
 }

@@ -1,67 +1,89 @@
 //! The exported functions against the reference at the limits of document 01: workers, events, checkpoints, bytes.
 
-use evidence::compare::{every_call, log_refusal, step, vector, Seen, State};
-use evidence::description::{get, put, Description, Event, Worker, MAX_LOG};
+use evidence::compare::{
+    every_call, is_refused_by, lower_cut, plan, restore_and_replay, step, steps, upper_line,
+    vector, Lengths, Replayed, Room, Seen, State,
+};
+use evidence::description::{get, put, worker_count, Description, Event, Worker, MAX_LOG};
+use evidence::failure::Call;
 use evidence::random::Random;
 use evidence::runs::{deep, hub, ring, run, widest, Shape};
 
+/// The most bytes that the steps of a list together test in a call of `restore_and_replay`: each tests the whole log.
+const MOST_BYTES: usize = 100_000_000;
+
+/// Compares the refusal of a log that no seed made with the number that it has to have.
+fn is_refused(log: &[u8], number: u32) {
+    is_refused_by(&Random::new(0), log, number);
+}
+
 /// Compares every call on a log a few times.
-fn often(log: &[u8], seed: u64, times: usize) {
-    let mut random = Random::new(seed);
-    for _ in 0..times {
-        every_call(&mut random, log, &mut Seen::default());
+fn often(log: &[u8], seed: u64, times: u64) {
+    for round in 0..times {
+        every_call(&mut Random::round(seed, round), log, &mut Seen::default());
     }
 }
 
-/// Compares the calls at events of a worker, and the first steps of the plans there.
+/// Compares the calls at events of a worker, and the replays of the plans there. The events are the rounds.
 fn at_events(log: &[u8], worker: u32, events: &[u32]) {
-    let mut random = Random::new(u64::from(worker) + 1);
-    let n = usize::from(log[2]);
     for &event in events {
-        assert_eq!(vector(&mut random, log, worker, event, n), 0);
-        let state = State::planned(log, worker, event).expect("the plan of an event");
-        for w in 0..n.min(3) as u32 {
-            step(&mut random, log, &state.plan, &state.positions, w);
-        }
-        plans::at_event(&mut random, log, worker, event, &state);
+        let mut random = Random::round(u64::from(worker) + 1, event.into());
+        at_event(&mut random, log, worker, event, 0);
     }
 }
 
-mod plans {
-    use super::State;
-    use evidence::compare::{lower_cut, plan, steps, upper_line, vector, Lengths};
-    use evidence::random::Random;
-
-    /// Compares the calls that are given an event, where it is none of the worker's: 13.
-    pub fn at_no_event(random: &mut Random, log: &[u8], worker: u32, event: u32) {
-        let n = usize::from(log[2]);
-        let lengths = Lengths {
-            words: 3 * n,
-            scratch: n * n,
-            totals: 4,
+/// Compares the calls that are given an event, where all return this number. Where the event is the worker's, its plan's first steps
+/// and the replay of the whole plan as one list are compared; `restore_and_replay` is given as much of the list as is quick, and a
+/// number that is no worker's.
+fn at_event(random: &mut Random, log: &[u8], worker: u32, event: u32, number: u32) {
+    let n = worker_count(log);
+    let lengths = Lengths {
+        words: 3 * n,
+        scratch: n * n,
+        totals: 4,
+    };
+    let returned = |random: &Random, name, found| {
+        let call = Call {
+            name,
+            random,
+            log,
+            arguments: &[("worker", worker.into()), ("event", event.into())],
         };
-        assert_eq!(vector(random, log, worker, event, n), 13);
-        assert_eq!(lower_cut(random, log, worker, event, lengths), 13);
-        assert_eq!(plan(random, log, worker, event, lengths), 13);
-        assert_eq!(upper_line(random, log, worker, event, n), 13);
-    }
+        call.returned(found, number);
+    };
+    let found = vector(random, log, worker, event, n);
+    returned(random, "vector", found);
+    let found = lower_cut(random, log, worker, event, lengths);
+    returned(random, "lower_cut", found);
+    let found = plan(random, log, worker, event, lengths);
+    returned(random, "plan", found);
+    let found = upper_line(random, log, worker, event, n);
+    returned(random, "upper_line", found);
 
-    /// Compares the other calls at an event, and the replay of the whole plan as one list.
-    pub fn at_event(random: &mut Random, log: &[u8], worker: u32, event: u32, state: &State) {
-        let n = usize::from(log[2]);
-        let lengths = Lengths {
-            words: 3 * n,
-            scratch: n * n,
-            totals: 4,
-        };
-        assert_eq!(lower_cut(random, log, worker, event, lengths), 0);
-        assert_eq!(plan(random, log, worker, event, lengths), 0);
-        assert_eq!(upper_line(random, log, worker, event, n), 0);
+    let mut list = vec![worker; 2];
+    let mut is_whole = false;
+    if let Some(state) = State::planned(log, worker, event) {
+        let State { plan, positions } = &state;
+        for w in 0..n.min(3) as u32 {
+            step(random, log, plan, positions, w);
+        }
         let accepted = reference::accept(log).expect("an accepted log");
-        let list = state.replay(&accepted).expect("the plan works");
-        let answers = list.len();
-        let State { plan, positions } = state;
-        assert_eq!(steps(random, log, plan, positions, &list, answers), 0);
+        list = state.replay(&accepted).expect("the plan works");
+        let found = steps(random, log, plan, positions, &list, list.len());
+        returned(random, "steps", found);
+        let length = list.len();
+        list.truncate(MOST_BYTES / log.len());
+        is_whole = list.len() == length;
+        list.insert(list.len() / 2, n as u32);
+    }
+    let room = Room::needed(n, list.len());
+    let replayed = restore_and_replay(random, log, worker, event, &list, room);
+    returned(random, "restore_and_replay", replayed.number());
+    if let Replayed::Steps(counted) = replayed {
+        assert!(
+            counted.is_finished || !is_whole,
+            "the whole list of {worker}/{event} left some worker before its cut, {random}"
+        );
     }
 }
 
@@ -73,14 +95,14 @@ fn longest_log() {
     assert!(log.len() > MAX_LOG - 60_000 && log.len() <= MAX_LOG);
     log.resize(MAX_LOG, 0xff);
     put(&mut log, 4, MAX_LOG as u32);
-    assert_eq!(log_refusal(&log), 0);
+    is_refused_by(&random, &log, 0);
     often(&log, 2, 3);
     let count = get(&log, 8);
     at_events(&log, 0, &[1, count / 2, count]);
 
     log.push(0xff);
     put(&mut log, 4, MAX_LOG as u32 + 1);
-    assert_eq!(log_refusal(&log), 1);
+    is_refused_by(&random, &log, 1);
     often(&log, 3, 1);
 }
 
@@ -117,7 +139,7 @@ fn faults_in_the_last_records_of_a_long_log() {
             11,
         ),
     ] {
-        assert_eq!(log_refusal(&log), number);
+        is_refused_by(&random, &log, number);
         often(&log, 5, 1);
     }
 }
@@ -137,17 +159,23 @@ fn most_events_in_a_worker() {
         workers: vec![sender, receiver],
     };
     let log = description.pack();
-    assert_eq!(log_refusal(&log), 0);
+    is_refused(&log, 0);
     often(&log, 6, 10);
     at_events(&log, 0, &[1, 2, 65_534, 65_535]);
     at_events(&log, 1, &[1, 2, 50_001, 65_534, 65_535]);
     for (worker, event) in [(0, 0), (0, 65_536), (1, 0), (1, 65_536)] {
-        plans::at_no_event(&mut Random::new(10), &log, worker, event);
+        at_event(
+            &mut Random::round(10, event.into()),
+            &log,
+            worker,
+            event,
+            13,
+        );
     }
 
     description.workers[0].events.push(Event::send(1, 70_000));
     let log = description.pack();
-    assert_eq!(log_refusal(&log), 5);
+    is_refused(&log, 5);
     often(&log, 7, 1);
 }
 
@@ -156,13 +184,13 @@ fn most_workers() {
     let mut random = Random::new(8);
     for (workers, number) in [(1, 0), (2, 0), (63, 0), (64, 0), (65, 3), (255, 3)] {
         let log = run(&Shape::long(workers, 3_000), &mut random).pack();
-        assert_eq!(log_refusal(&log), number);
+        is_refused_by(&random, &log, number);
         often(&log, 9, 20);
     }
     for workers in [0_u16, 320, 65_535] {
         let mut log = run(&Shape::long(64, 3_000), &mut random).pack();
         log[2..4].copy_from_slice(&workers.to_le_bytes());
-        assert_eq!(log_refusal(&log), 3);
+        is_refused_by(&random, &log, 3);
     }
 }
 
@@ -175,13 +203,13 @@ fn most_checkpoints() {
         worker.checkpoints = (0..1_024).map(|k| (count * k / 1_023, k + 1)).collect();
     }
     let log = description.pack();
-    assert_eq!(log_refusal(&log), 0);
+    is_refused_by(&random, &log, 0);
     often(&log, 11, 3);
     let count = description.workers[63].events.len() as u32;
     at_events(&log, 63, &[1, count / 2, count]);
 
     description.workers[63].checkpoints.push((count, 1_025));
-    assert_eq!(log_refusal(&description.pack()), 5);
+    is_refused_by(&random, &description.pack(), 5);
 }
 
 #[test]
@@ -189,7 +217,7 @@ fn many_visits() {
     for levels in [1, 5, 16] {
         let description = deep(64, levels);
         let log = description.pack();
-        assert_eq!(log_refusal(&log), 0);
+        is_refused(&log, 0);
         let (mut words, mut scratch, mut totals) = ([0; 64], [0; 4_096], [0; 2]);
         let number = reference::lower_cut(&log, 63, 1, &mut words, &mut scratch, &mut totals);
         assert_eq!((number, totals[0]), (0, (1 << levels) + 63 - levels as u64));
@@ -201,7 +229,7 @@ fn many_visits() {
 #[test]
 fn one_worker_that_hears_from_all() {
     let log = hub(64, 65_535).pack();
-    assert_eq!(log_refusal(&log), 0);
+    is_refused(&log, 0);
     at_events(&log, 0, &[1, 64, 30_000, 65_535]);
     often(&log, 13, 2);
 }
@@ -209,7 +237,7 @@ fn one_worker_that_hears_from_all() {
 #[test]
 fn one_message_that_goes_round() {
     let log = ring(64, 200_000).pack();
-    assert_eq!(log_refusal(&log), 0);
+    is_refused(&log, 0);
     at_events(&log, 0, &[1]);
     let count = get(&log, 28);
     at_events(&log, 1, &[1, count / 2, count]);
@@ -230,8 +258,13 @@ fn shortest_logs() {
                 put(&mut log, 12, 28);
                 put(&mut log, 20, 28);
             }
-            let number = log_refusal(&log);
-            assert_eq!(number == 0, length == 28 && n == 1);
+            let number = match (length, n) {
+                (0..8, _) => 1,
+                (_, 0) => 3,
+                (28, 1) => 0,
+                _ => 4,
+            };
+            is_refused(&log, number);
             often(&log, 14, 3);
         }
     }

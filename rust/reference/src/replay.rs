@@ -1,6 +1,7 @@
 //! The replay machine.
 
-use crate::log::{accept, number, refuse_if, Log};
+use crate::log::{accept, breakpoint, number, refuse_if, Log};
+use crate::restore::write_plan;
 
 /// The plan words as cuts and starts, with the positions, of one log.
 struct Machine<'a> {
@@ -102,6 +103,62 @@ fn try_steps(
     refuse_if(machine.is_disordered(), 16)?;
     for (answer, &worker) in answers.iter_mut().zip(workers) {
         *answer = machine.step(worker);
+    }
+    Ok(())
+}
+
+/// The plan of a breakpoint, to 3 × n words and four totals, and a step for each number of `workers` from its starts: for each step
+/// its answer and the n positions after it, to `steps`; the positions after the last, to `positions`.
+#[allow(clippy::too_many_arguments)]
+pub fn restore_and_replay(
+    log: &[u8],
+    worker: u32,
+    event: u32,
+    workers: &[u32],
+    words: &mut [u32],
+    scratch: &mut [u32],
+    positions: &mut [u32],
+    steps: &mut [u32],
+    totals: &mut [u64],
+) -> u32 {
+    number(try_restore_and_replay(
+        log,
+        (worker, event),
+        workers,
+        (words, totals),
+        scratch,
+        positions,
+        steps,
+    ))
+}
+
+fn try_restore_and_replay(
+    log: &[u8],
+    (worker, event): (u32, u32),
+    workers: &[u32],
+    (words, totals): (&mut [u32], &mut [u64]),
+    scratch: &[u32],
+    positions: &mut [u32],
+    steps: &mut [u32],
+) -> Result<(), u32> {
+    let (log, i) = breakpoint(log, worker, event)?;
+    let n = log.size();
+    let stepped = workers.len() as u128 * (n as u128 + 1);
+    refuse_if(words.len() < 3 * n || totals.len() < 4, 14)?;
+    refuse_if(positions.len() < n || (steps.len() as u128) < stepped, 14)?;
+    refuse_if(scratch.len() < n * n, 15)?;
+    write_plan(&log, i, event, words, totals);
+    for (w, position) in positions[..n].iter_mut().enumerate() {
+        *position = words[3 * w + 1];
+    }
+    let mut machine = Machine {
+        log: &log,
+        plan: words,
+        positions,
+    };
+    for (row, &worker) in steps.chunks_exact_mut(n + 1).zip(workers) {
+        row[0] = machine.step(worker);
+        row[1..].copy_from_slice(&machine.positions[..n]);
     }
     Ok(())
 }

@@ -64,8 +64,14 @@ fn try_plan(
     let n = log.size();
     refuse_if(words.len() < 3 * n || totals.len() < 4, 14)?;
     refuse_if(scratch.len() < n * n, 15)?;
-    let (cut, visits) = figure2(&log, i, event);
-    let starts = starts(&log, &cut);
+    write_plan(&log, i, event, words, totals);
+    Ok(())
+}
+
+/// Writes the plan of event `event` of worker `i` and its totals.
+pub(crate) fn write_plan(log: &Log, i: usize, event: u32, words: &mut [u32], totals: &mut [u64]) {
+    let (cut, visits) = figure2(log, i, event);
+    let starts = starts(log, &cut);
     let mut events = 0;
     let mut units = 0;
     for (w, worker) in log.workers.iter().enumerate() {
@@ -84,7 +90,6 @@ fn try_plan(
     totals[1] = events;
     totals[2] = units;
     totals[3] = workers_word(&cut);
-    Ok(())
 }
 
 /// 1 or 0 to the first word of `yes`: whether the identifier covers.

@@ -2,19 +2,20 @@
 //!
 //! `cargo run --example tube`
 
-use restore_planner::{plan, Breakpoint, Refusal, Replay};
+use restore_planner::{Advance, Breakpoint, Log, Refusal, Replay};
 
 /// The tube log of document 01, packed.
 const TUBE: &[u8] = include_bytes!("tube.log");
 
 fn main() -> Result<(), Refusal> {
+    let log = Log::new(TUBE)?;
     let at = Breakpoint {
         worker: 0,
         event: 2,
     };
-    let plan = plan(TUBE, at)?;
+    let plan = log.plan(at)?;
 
-    println!("breakpoint {}/{}", at.worker, at.event);
+    println!("breakpoint {at}");
     for (worker, entry) in plan.workers.iter().enumerate() {
         println!(
             "worker {worker}: cut {}, start {}, checkpoint {}",
@@ -23,27 +24,27 @@ fn main() -> Result<(), Refusal> {
     }
     let totals = plan.totals;
     println!(
-        "visits {}, events {}, units {}, workers {}",
-        totals.visits, totals.events, totals.units, totals.workers
+        "visits {}, events {}, units {}",
+        totals.visits, totals.events, totals.units
     );
 
-    let mut replay = Replay::new(TUBE, &plan);
+    let mut replay = Replay::new(&log, &plan)?;
     println!("positions {:?}", replay.positions());
-    while !replay.is_done() {
-        let mut moved = false;
-        for worker in 0..plan.workers.len() as u32 {
-            match replay.step(worker) {
-                Ok(()) => {
-                    moved = true;
-                    println!("worker {worker}: done, positions {:?}", replay.positions());
-                }
-                Err(refusal) => println!("worker {worker}: {refusal}"),
+    println!("worker 0: {}", replay.step(0)?);
+    let end = loop {
+        match replay.advance()? {
+            Advance::Stepped(worker) => {
+                println!(
+                    "worker {worker} made a step, positions {:?}",
+                    replay.positions()
+                );
             }
+            end => break end,
         }
-        if !moved {
-            break;
-        }
+    };
+    println!("{end:?}");
+    if let Err(refusal) = replay.step(3) {
+        println!("worker 3: {refusal}");
     }
-    println!("all at their cuts: {}", replay.is_done());
     Ok(())
 }

@@ -1,13 +1,16 @@
 //! The exported functions of the static library, on numbers and slices.
 //!
 //! Each function lends its slices to the exported function of the same name and returns that function's number: 0, or the number
-//! of the refusal (see [`Refusal`](crate::Refusal)). The exported functions have no precondition, so any numbers and any slices are
-//! good. A refusal changes no lent word. On success the words past those named are untouched; scratch alone is free.
+//! of a refusal; [`Refusal::check`](crate::Refusal::check) and [`Step::check`](crate::Step::check) say what it means. The exported
+//! functions have no precondition, so any numbers and any slices are good. A refusal changes no lent word. On success the words
+//! past those named are untouched; scratch alone is free.
 //!
-//! This module has the declarations and all `unsafe` code of the crate. Nothing checks the declarations against the library, so
-//! they are kept beside each other: a slice is a pointer and then a length.
+//! This module has the declarations and all `unsafe` code of the crate. A slice is a pointer and then a length. The exported
+//! functions read and write within the slices that they are lent and keep none of them; nothing checks that the declarations here
+//! are those of the library.
 
 #![allow(unsafe_code)]
+#![deny(clippy::undocumented_unsafe_blocks)]
 
 mod exported {
     extern "C" {
@@ -22,18 +25,15 @@ mod exported {
             words_length: usize,
         ) -> u32;
 
-        pub fn step(
+        pub fn upper_line(
             log: *const u8,
             log_length: usize,
-            plan: *const u32,
-            plan_length: usize,
-            positions: *mut u32,
-            positions_length: usize,
             worker: u32,
+            event: u32,
+            words: *mut u32,
+            words_length: usize,
         ) -> u32;
-    }
 
-    extern "C" {
         pub fn lower_cut(
             log: *const u8,
             log_length: usize,
@@ -45,32 +45,6 @@ mod exported {
             scratch_length: usize,
             totals: *mut u64,
             totals_length: usize,
-        ) -> u32;
-
-        pub fn upper_line(
-            log: *const u8,
-            log_length: usize,
-            worker: u32,
-            event: u32,
-            words: *mut u32,
-            words_length: usize,
-        ) -> u32;
-
-        pub fn cut_test(
-            log: *const u8,
-            log_length: usize,
-            words: *const u32,
-            words_length: usize,
-            yes: *mut u32,
-            yes_length: usize,
-        ) -> u32;
-
-        pub fn covers(
-            log: *const u8,
-            log_length: usize,
-            identifier: u32,
-            yes: *mut u32,
-            yes_length: usize,
         ) -> u32;
 
         pub fn plan(
@@ -86,11 +60,38 @@ mod exported {
             totals_length: usize,
         ) -> u32;
 
+        pub fn cut_test(
+            log: *const u8,
+            log_length: usize,
+            words: *const u32,
+            words_length: usize,
+            answer: *mut u32,
+            answer_length: usize,
+        ) -> u32;
+
+        pub fn covers(
+            log: *const u8,
+            log_length: usize,
+            identifier: u32,
+            answer: *mut u32,
+            answer_length: usize,
+        ) -> u32;
+
+        pub fn step(
+            log: *const u8,
+            log_length: usize,
+            words: *const u32,
+            words_length: usize,
+            positions: *mut u32,
+            positions_length: usize,
+            worker: u32,
+        ) -> u32;
+
         pub fn steps(
             log: *const u8,
             log_length: usize,
-            plan: *const u32,
-            plan_length: usize,
+            words: *const u32,
+            words_length: usize,
             positions: *mut u32,
             positions_length: usize,
             workers: *const u32,
@@ -98,21 +99,54 @@ mod exported {
             answers: *mut u32,
             answers_length: usize,
         ) -> u32;
+
+        pub fn restore_and_replay(
+            log: *const u8,
+            log_length: usize,
+            worker: u32,
+            event: u32,
+            workers: *const u32,
+            workers_length: usize,
+            words: *mut u32,
+            words_length: usize,
+            scratch: *mut u32,
+            scratch_length: usize,
+            positions: *mut u32,
+            positions_length: usize,
+            steps: *mut u32,
+            steps_length: usize,
+            totals: *mut u64,
+            totals_length: usize,
+        ) -> u32;
     }
 }
 
-// SAFETY, for each call below: the pointers and lengths are those of slices that are borrowed for the whole call, the mutable ones
-// alone, and the exported function reads and writes within them and keeps none.
-
 /// 0 for an accepted log, else 1 to 11.
 pub fn log_refusal(log: &[u8]) -> u32 {
+    // SAFETY: each pointer goes with the length of its slice, which is borrowed for the whole call, alone where it is mutable.
     unsafe { exported::log_refusal(log.as_ptr(), log.len()) }
 }
 
 /// Writes the dependency vector of an event to n words.
 pub fn vector(log: &[u8], worker: u32, event: u32, words: &mut [u32]) -> u32 {
+    // SAFETY: each pointer goes with the length of its slice, which is borrowed for the whole call, alone where it is mutable.
     unsafe {
         exported::vector(
+            log.as_ptr(),
+            log.len(),
+            worker,
+            event,
+            words.as_mut_ptr(),
+            words.len(),
+        )
+    }
+}
+
+/// Writes the upper line of a breakpoint to n words.
+pub fn upper_line(log: &[u8], worker: u32, event: u32, words: &mut [u32]) -> u32 {
+    // SAFETY: each pointer goes with the length of its slice, which is borrowed for the whole call, alone where it is mutable.
+    unsafe {
+        exported::upper_line(
             log.as_ptr(),
             log.len(),
             worker,
@@ -132,6 +166,7 @@ pub fn lower_cut(
     scratch: &mut [u32],
     totals: &mut [u64],
 ) -> u32 {
+    // SAFETY: each pointer goes with the length of its slice, which is borrowed for the whole call, alone where it is mutable.
     unsafe {
         exported::lower_cut(
             log.as_ptr(),
@@ -148,47 +183,6 @@ pub fn lower_cut(
     }
 }
 
-/// Writes the upper line of a breakpoint to n words.
-pub fn upper_line(log: &[u8], worker: u32, event: u32, words: &mut [u32]) -> u32 {
-    unsafe {
-        exported::upper_line(
-            log.as_ptr(),
-            log.len(),
-            worker,
-            event,
-            words.as_mut_ptr(),
-            words.len(),
-        )
-    }
-}
-
-/// Writes 1 to the first word of `yes` where the first n words are a consistent cut, else 0.
-pub fn cut_test(log: &[u8], words: &[u32], yes: &mut [u32]) -> u32 {
-    unsafe {
-        exported::cut_test(
-            log.as_ptr(),
-            log.len(),
-            words.as_ptr(),
-            words.len(),
-            yes.as_mut_ptr(),
-            yes.len(),
-        )
-    }
-}
-
-/// Writes 1 to the first word of `yes` where the identifier covers, else 0.
-pub fn covers(log: &[u8], identifier: u32, yes: &mut [u32]) -> u32 {
-    unsafe {
-        exported::covers(
-            log.as_ptr(),
-            log.len(),
-            identifier,
-            yes.as_mut_ptr(),
-            yes.len(),
-        )
-    }
-}
-
 /// Writes the plan of a breakpoint to 3 × n words (cut, start, identifier of each worker), and the visits, events, units and the
 /// workers word to four totals. Scratch is n × n words.
 pub fn plan(
@@ -199,6 +193,7 @@ pub fn plan(
     scratch: &mut [u32],
     totals: &mut [u64],
 ) -> u32 {
+    // SAFETY: each pointer goes with the length of its slice, which is borrowed for the whole call, alone where it is mutable.
     unsafe {
         exported::plan(
             log.as_ptr(),
@@ -215,14 +210,44 @@ pub fn plan(
     }
 }
 
-/// One step of a worker: 0 with its position one higher, or a refusal.
-pub fn step(log: &[u8], plan: &[u32], positions: &mut [u32], worker: u32) -> u32 {
+/// Writes 1 to the first word of `answer` where the first n words are a consistent cut, else 0.
+pub fn cut_test(log: &[u8], words: &[u32], answer: &mut [u32]) -> u32 {
+    // SAFETY: each pointer goes with the length of its slice, which is borrowed for the whole call, alone where it is mutable.
+    unsafe {
+        exported::cut_test(
+            log.as_ptr(),
+            log.len(),
+            words.as_ptr(),
+            words.len(),
+            answer.as_mut_ptr(),
+            answer.len(),
+        )
+    }
+}
+
+/// Writes 1 to the first word of `answer` where the identifier covers, else 0.
+pub fn covers(log: &[u8], identifier: u32, answer: &mut [u32]) -> u32 {
+    // SAFETY: each pointer goes with the length of its slice, which is borrowed for the whole call, alone where it is mutable.
+    unsafe {
+        exported::covers(
+            log.as_ptr(),
+            log.len(),
+            identifier,
+            answer.as_mut_ptr(),
+            answer.len(),
+        )
+    }
+}
+
+/// One step of a worker over plan words: 0 with its position one higher, or a refusal.
+pub fn step(log: &[u8], words: &[u32], positions: &mut [u32], worker: u32) -> u32 {
+    // SAFETY: each pointer goes with the length of its slice, which is borrowed for the whole call, alone where it is mutable.
     unsafe {
         exported::step(
             log.as_ptr(),
             log.len(),
-            plan.as_ptr(),
-            plan.len(),
+            words.as_ptr(),
+            words.len(),
             positions.as_mut_ptr(),
             positions.len(),
             worker,
@@ -234,23 +259,62 @@ pub fn step(log: &[u8], plan: &[u32], positions: &mut [u32], worker: u32) -> u32
 /// answer of step j, and the positions are those after the last step.
 pub fn steps(
     log: &[u8],
-    plan: &[u32],
+    words: &[u32],
     positions: &mut [u32],
     workers: &[u32],
     answers: &mut [u32],
 ) -> u32 {
+    // SAFETY: each pointer goes with the length of its slice, which is borrowed for the whole call, alone where it is mutable.
     unsafe {
         exported::steps(
             log.as_ptr(),
             log.len(),
-            plan.as_ptr(),
-            plan.len(),
+            words.as_ptr(),
+            words.len(),
             positions.as_mut_ptr(),
             positions.len(),
             workers.as_ptr(),
             workers.len(),
             answers.as_mut_ptr(),
             answers.len(),
+        )
+    }
+}
+
+/// Writes the plan of a breakpoint to 3 × n words and its totals, as [`plan`] does, and makes one call of [`step`] for each number
+/// of `workers` from the planned starts. For each of these calls its answer and then the n positions after it stand in `steps`,
+/// n + 1 words each; the positions after the list stand in `positions`, n words. Scratch is n × n words.
+#[allow(clippy::too_many_arguments)]
+pub fn restore_and_replay(
+    log: &[u8],
+    worker: u32,
+    event: u32,
+    workers: &[u32],
+    words: &mut [u32],
+    scratch: &mut [u32],
+    positions: &mut [u32],
+    steps: &mut [u32],
+    totals: &mut [u64],
+) -> u32 {
+    // SAFETY: each pointer goes with the length of its slice, which is borrowed for the whole call, alone where it is mutable.
+    unsafe {
+        exported::restore_and_replay(
+            log.as_ptr(),
+            log.len(),
+            worker,
+            event,
+            workers.as_ptr(),
+            workers.len(),
+            words.as_mut_ptr(),
+            words.len(),
+            scratch.as_mut_ptr(),
+            scratch.len(),
+            positions.as_mut_ptr(),
+            positions.len(),
+            steps.as_mut_ptr(),
+            steps.len(),
+            totals.as_mut_ptr(),
+            totals.len(),
         )
     }
 }

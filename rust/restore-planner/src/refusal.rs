@@ -1,27 +1,27 @@
-//! The refusals of document 01.
+//! Why something was not accepted.
 
 use std::error::Error;
 use std::fmt;
 
-/// Why a call was refused: a number of document 01 and its condition.
+/// Why a log or an argument was not accepted.
 ///
-/// 1 to 16 are refused by the input, 21 to 23 by the replay's state. Of the conditions that apply the smallest number is given.
+/// Of the conditions that apply, the one with the smallest number is given. [`Refusal::number`] is the number of document 01.
 #[derive(Clone, Copy, Debug, PartialEq, Eq, Hash)]
 #[non_exhaustive]
 pub enum Refusal {
     /// 1: the log is under 8 or over 4,194,304 bytes.
     LogLength,
-    /// 2: the form is not 1.
+    /// 2: the log's form is not 1.
     Form,
-    /// 3: the worker count is outside 1 to 64.
+    /// 3: the log's worker count is outside 1 to 64.
     WorkerCount,
-    /// 4: the length field is unlike the log's length, or the header is longer than the log.
+    /// 4: the log's length field is unlike its length, or its header is longer than the log.
     Header,
     /// 5: an event count, a checkpoint count or a role is over its limit.
     Limit,
-    /// 6: a section starts inside the header or passes the log's end.
+    /// 6: the events or the checkpoints of a worker start inside the header or pass the log's end.
     Section,
-    /// 7: a record's kind, peer, spare bytes or peer event is not as it should be.
+    /// 7: an event's kind, peer, spare bytes or peer event is not as it should be.
     Record,
     /// 8: a stamp is 0 or not above the worker's previous one.
     Stamp,
@@ -33,27 +33,21 @@ pub enum Refusal {
     Checkpoint,
     /// 12: the worker number is not below the worker count.
     Worker,
-    /// 13: the event is 0 or over the worker's count.
+    /// 13: the event is 0 or over the worker's event count.
     Event,
-    /// 14: fewer words were lent than the call reads or writes.
+    /// 14: there are fewer words than the call reads or writes.
     Words,
     /// 15: the scratch is too short.
     Scratch,
-    /// 16: a cut word is over the event count, or some worker is without start ≤ position ≤ cut ≤ count.
+    /// 16: a cut is over its worker's event count; for a step, some worker is without start ≤ position ≤ cut ≤ event count.
     Cut,
-    /// 21: the worker is at its cut.
-    AtCut,
-    /// 22: the next event waits for a send that has not been replayed yet.
-    Waits,
-    /// 23: the next event's send is at or below the sender's start, so its data are lost.
-    Lost,
-    /// A number that document 01 does not list.
+    /// A number that this library does not know.
     Unlisted(u32),
 }
 
 impl Refusal {
-    /// The refusals of document 01, by rising number.
-    pub const LISTED: [Refusal; 19] = [
+    /// The refusals by rising number, [`Refusal::Unlisted`] excepted.
+    pub const LISTED: [Refusal; 16] = [
         Refusal::LogLength,
         Refusal::Form,
         Refusal::WorkerCount,
@@ -70,12 +64,14 @@ impl Refusal {
         Refusal::Words,
         Refusal::Scratch,
         Refusal::Cut,
-        Refusal::AtCut,
-        Refusal::Waits,
-        Refusal::Lost,
     ];
 
-    /// The result of a call that returned `number`: 0 is success.
+    /// What the number of a call means, for numbers that come from [`calls`](crate::calls). A step's number has its own meanings:
+    /// see [`Step::check`](crate::Step::check).
+    ///
+    /// # Errors
+    ///
+    /// The refusal of this number, where it is not 0.
     pub fn check(number: u32) -> Result<(), Refusal> {
         if number == 0 {
             return Ok(());
@@ -105,54 +101,65 @@ impl Refusal {
             Refusal::Words => 14,
             Refusal::Scratch => 15,
             Refusal::Cut => 16,
-            Refusal::AtCut => 21,
-            Refusal::Waits => 22,
-            Refusal::Lost => 23,
             Refusal::Unlisted(number) => number,
         }
     }
 
-    /// The condition, in the words of document 01's tables.
-    pub fn meaning(self) -> &'static str {
+    fn sentence(self) -> &'static str {
         match self {
-            Refusal::LogLength => "log under 8 or over 4,194,304 bytes",
-            Refusal::Form => "form not 1",
-            Refusal::WorkerCount => "n outside 1..64",
-            Refusal::Header => "length field unlike the lent length, or header longer than the log",
-            Refusal::Limit => "event count, checkpoint count or role over its limit",
+            Refusal::LogLength => "the log is shorter than 8 bytes or longer than 4,194,304",
+            Refusal::Form => {
+                "these bytes are not a log of form 1, which the first two bytes must give"
+            }
+            Refusal::WorkerCount => "the log's header gives no workers or more than 64",
+            Refusal::Header => {
+                "the log is cut off or has bytes too many: its header gives another length, or does not fit into the log"
+            }
+            Refusal::Limit => {
+                "the log's header gives a worker more than 65,535 events, more than 1,024 checkpoints or a role above 3"
+            }
             Refusal::Section => {
-                "a section, even empty, starts inside the header or passes the log's end"
+                "the log's header places the events or the checkpoints of a worker inside the header or past the log's end"
             }
             Refusal::Record => {
-                "kind, spare or peer event not as above; peer is itself or not below n; \
-                 a receive's peer event is 0 or over the peer's count"
+                "an event in the log is malformed: its kind is none of 1, 2 and 3, its spare bytes are not 0, its peer is not another \
+                 worker of the log, or it is a send that names a peer's event or a receive that names none of the peer's"
             }
-            Refusal::Stamp => "stamp 0, or not above the worker's previous one",
-            Refusal::Source => "a receive names an event that isn't a send to its worker",
-            Refusal::Order => "a receive's stamp not above its send's",
+            Refusal::Stamp => {
+                "the stamps of a worker's events do not rise: one is 0 or not above the one before it"
+            }
+            Refusal::Source => {
+                "a receive in the log names an event that is not a send to the receiving worker"
+            }
+            Refusal::Order => {
+                "a receive in the log has a stamp that is not above the stamp of its send"
+            }
             Refusal::Checkpoint => {
-                "checkpoint index over the event count or below the previous one; \
-                 identifier 0 or not above the previous"
+                "a worker's checkpoints are out of order: one is past the worker's last event or before the previous checkpoint, \
+                 or its identifier is 0 or not above the previous one"
             }
-            Refusal::Worker => "worker number not below n",
-            Refusal::Event => "event 0 or over the worker's count",
-            Refusal::Words => "fewer words lent than the call reads or writes",
-            Refusal::Scratch => "scratch too short",
+            Refusal::Worker => "the log has no worker of this number; workers are numbered from 0",
+            Refusal::Event => "the worker has no event of this number; events are numbered from 1",
+            Refusal::Words => {
+                "too few words were given; a cut has one for each worker of the log, a plan has one entry for each"
+            }
+            Refusal::Scratch => {
+                "too little scratch was given; the worker count times itself is enough"
+            }
             Refusal::Cut => {
-                "a cut word over the event count; for a step, some worker without \
-                 start ≤ position ≤ cut ≤ count"
+                "a worker's cut is past its last event, or its position is not between its start and its cut"
             }
-            Refusal::AtCut => "the worker is at its cut",
-            Refusal::Waits => "kind 2, send above the sender's position: it waits",
-            Refusal::Lost => "kind 2, send at or below the sender's start: the data are lost",
-            Refusal::Unlisted(_) => "not listed in document 01",
+            Refusal::Unlisted(_) => {
+                "the planner gave a number that this version of the library does not know"
+            }
         }
     }
 }
 
+/// Prints what is wrong, and the number.
 impl fmt::Display for Refusal {
     fn fmt(&self, f: &mut fmt::Formatter<'_>) -> fmt::Result {
-        write!(f, "refused by {}: {}", self.number(), self.meaning())
+        write!(f, "{} (refusal {})", self.sentence(), self.number())
     }
 }
 

@@ -174,6 +174,9 @@ fn calls_on(input: &Input) -> Vec<(&'static str, Times)> {
         worker,
         event,
         state,
+        list,
+        cut,
+        identifier,
         ..
     } = input;
     let (w, e) = (*worker, *event);
@@ -202,30 +205,6 @@ fn calls_on(input: &Input) -> Vec<(&'static str, Times)> {
                 &mut || reference::step(log, &state.plan, b.begin(state), w),
             ),
         ),
-    ];
-    let rows = rows
-        .into_iter()
-        .chain(calls_with_events_on(input, &mut a, &mut b))
-        .collect();
-    // Read, so that what the calls wrote is wanted.
-    black_box((a.scratch, a.totals, a.answers));
-    black_box((b.scratch, b.totals, b.answers));
-    rows
-}
-
-fn calls_with_events_on(input: &Input, a: &mut Words, b: &mut Words) -> Vec<(&'static str, Times)> {
-    let Input {
-        log,
-        worker,
-        event,
-        state,
-        list,
-        cut,
-        identifier,
-        ..
-    } = input;
-    let (w, e) = (*worker, *event);
-    vec![
         (
             "upper_line",
             measure(
@@ -276,19 +255,23 @@ fn calls_with_events_on(input: &Input, a: &mut Words, b: &mut Words) -> Vec<(&'s
                     a.begin(state);
                     let Words {
                         positions, answers, ..
-                    } = &mut *a;
+                    } = &mut a;
                     calls::steps(log, &state.plan, positions, list, answers)
                 },
                 &mut || {
                     b.begin(state);
                     let Words {
                         positions, answers, ..
-                    } = &mut *b;
+                    } = &mut b;
                     reference::steps(log, &state.plan, positions, list, answers)
                 },
             ),
         ),
-    ]
+    ];
+    // Read, so that what the calls wrote is wanted.
+    black_box((a.scratch, a.totals, a.answers));
+    black_box((b.scratch, b.totals, b.answers));
+    rows
 }
 
 fn micros(time: Duration) -> f64 {

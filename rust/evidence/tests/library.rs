@@ -1,0 +1,99 @@
+//! The library's `Log` and `Replay` against the reference on seeded logs.
+
+use evidence::compare::State;
+use evidence::failure::{number, words, Call, Meaning};
+use evidence::random::Random;
+use evidence::runs::any_log;
+use restore_planner::{Advance, Breakpoint, Log, Refusal, Replay, Step};
+
+/// The number of an answer.
+fn answer_number(answer: Result<Step, Refusal>) -> u32 {
+    answer.map_or_else(Refusal::number, Step::number)
+}
+
+#[test]
+fn plans_and_replays_of_any_event() {
+    let mut advanced = 0;
+    for round in 0..2_000 {
+        let mut random = Random::round(500, round);
+        let bytes = any_log(&mut random, 8, 60);
+        let accepted = reference::accept(&bytes).expect("an accepted log");
+        let worker = random.below(accepted.size()) as u32;
+        let count = accepted.workers[worker as usize].count();
+        if count > 0 {
+            let event = random.within(1, count as usize) as u32;
+            // One of the numbers is no worker's.
+            let list: Vec<u32> = (0..random.below(20))
+                .map(|_| random.below(accepted.size() + 1) as u32)
+                .collect();
+            advanced += one_event(&random, &bytes, Breakpoint { worker, event }, &list);
+        }
+    }
+    assert!(advanced > 1_000, "few advances: {advanced}");
+}
+
+/// Compares the plan of an event, its replay by a list, and from there by advances to its end. The number of advances is returned.
+fn one_event(random: &Random, bytes: &[u8], at: Breakpoint, list: &[u32]) -> u64 {
+    let arguments = [("worker", at.worker.into()), ("event", at.event.into())];
+    let call = |name| Call {
+        name,
+        random,
+        log: bytes,
+        arguments: &arguments,
+    };
+    let State {
+        plan: planned,
+        mut positions,
+    } = State::planned(bytes, at.worker, at.event).expect("a plan");
+    let cut: Vec<u32> = planned.chunks(3).map(|entry| entry[0]).collect();
+
+    let log = call("Log::new").accepted(Log::new(bytes));
+    let size = cut.len() as u32;
+    call("Log::worker_count").same([number("count", log.worker_count() as u32, size)]);
+    let plan = call("Log::plan").accepted(log.plan(at));
+    let entries = plan.workers.iter();
+    let found: Vec<u32> = entries
+        .flat_map(|entry| [entry.cut, entry.start, entry.identifier])
+        .collect();
+    let name = |index| Meaning::Plan.word("plan", index);
+    call("Log::plan").same([words(name, &found, &planned)]);
+    let lower = call("Log::lower_cut").accepted(log.lower_cut(at));
+    let name = |w| format!("cut[{w}]");
+    call("Log::lower_cut").same([words(name, &lower.cut, &cut)]);
+    for w in 0..=size {
+        let within = cut.get(w as usize).is_some_and(|&c| c > 0).into();
+        let name = format!("has_worker({w})");
+        call("Log::lower_cut").same([number(&name, lower.has_worker(w).into(), within)]);
+        call("Log::plan").same([number(&name, plan.totals.has_worker(w).into(), within)]);
+    }
+
+    let mut replay = call("Replay::new").accepted(Replay::new(&log, &plan));
+    let answers = call("Replay::run").accepted(replay.run(list));
+    let answers: Vec<u32> = answers.into_iter().map(answer_number).collect();
+    let mut expected = vec![0; list.len()];
+    reference::steps(bytes, &planned, &mut positions, list, &mut expected);
+    let position = |w| format!("positions[{w}]");
+    call("Replay::run").same([
+        words(|j| format!("answers[{j}]"), &answers, &expected),
+        words(position, replay.positions(), &positions),
+    ]);
+
+    let done = answers.iter().filter(|&&answer| answer == 0).count() as u64;
+    let mut advanced = 0;
+    let advance = call("Replay::advance");
+    let end = loop {
+        match advance.accepted(replay.advance()) {
+            Advance::Stepped(worker) => positions[worker as usize] += 1,
+            end => break end,
+        }
+        advanced += 1;
+        advance.same([words(position, replay.positions(), &positions)]);
+    };
+    advance.holds(end == Advance::Finished, || format!("it ended {end:?}"));
+    advance.same([words(position, replay.positions(), &cut)]);
+    advance.holds(done + advanced == plan.totals.events, || {
+        let events = plan.totals.events;
+        format!("{done} steps of the list and {advanced} advances for {events} events")
+    });
+    advanced
+}

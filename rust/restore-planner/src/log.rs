@@ -1,0 +1,230 @@
+//! An accepted log and the calls on it.
+
+use crate::plan::Workers;
+use crate::replay::StepRecord;
+use crate::{calls, header, Breakpoint, LowerCut, Plan, Refusal, Restored};
+use std::fmt;
+
+/// An accepted log, on bytes that it borrows.
+///
+/// ```
+/// use restore_planner::{Breakpoint, Log, Refusal};
+///
+/// let bytes = include_bytes!(concat!(env!("CARGO_MANIFEST_DIR"), "/examples/tube.log"));
+/// let log = Log::new(bytes)?;
+/// assert_eq!(log.worker_count(), 3);
+/// assert_eq!(log.upper_line(Breakpoint { worker: 0, event: 2 })?, [2, 3, 3]);
+/// assert_eq!(log.upper_line(Breakpoint { worker: 0, event: 9 }), Err(Refusal::Event));
+///
+/// let refusal = Log::new(b"not a log").unwrap_err();
+/// assert_eq!(refusal.number(), 2);
+/// # Ok::<(), Refusal>(())
+/// ```
+#[derive(Clone, Copy)]
+pub struct Log<'a> {
+    bytes: &'a [u8],
+    workers: usize,
+}
+
+impl<'a> Log<'a> {
+    /// The log in these bytes.
+    ///
+    /// # Errors
+    ///
+    /// Refusals 1 to 11, where the bytes are no log. Behind this call no method of the log gives any of these.
+    pub fn new(bytes: &'a [u8]) -> Result<Log<'a>, Refusal> {
+        Refusal::check(calls::log_refusal(bytes))?;
+        Ok(Log {
+            bytes,
+            workers: header::worker_count(bytes),
+        })
+    }
+
+    /// The log's bytes.
+    pub fn as_bytes(&self) -> &'a [u8] {
+        self.bytes
+    }
+
+    /// How many workers the log has.
+    pub fn worker_count(&self) -> usize {
+        self.workers
+    }
+
+    /// The dependency vector of an event: for its own worker the event, for each other worker the largest event of it that a
+    /// receive up to this event names, else 0.
+    ///
+    /// # Errors
+    ///
+    /// [`Refusal::Worker`] or [`Refusal::Event`], where the log has no such event.
+    pub fn vector(&self, at: Breakpoint) -> Result<Vec<u32>, Refusal> {
+        let mut words = vec![0; self.workers];
+        Refusal::check(calls::vector(self.bytes, at.worker, at.event, &mut words))?;
+        Ok(words)
+    }
+
+    /// The lower cut of a breakpoint: the least consistent cut that has the breakpoint's event within it.
+    ///
+    /// # Errors
+    ///
+    /// [`Refusal::Worker`] or [`Refusal::Event`], where the log has no such event.
+    pub fn lower_cut(&self, at: Breakpoint) -> Result<LowerCut, Refusal> {
+        let mut cut = vec![0; self.workers];
+        let mut scratch = self.scratch();
+        let mut totals = [0; 2];
+        Refusal::check(calls::lower_cut(
+            self.bytes,
+            at.worker,
+            at.event,
+            &mut cut,
+            &mut scratch,
+            &mut totals,
+        ))?;
+        let [visits, workers] = totals;
+        Ok(LowerCut {
+            cut,
+            visits,
+            workers: Workers::new(workers),
+        })
+    }
+
+    /// The upper line of a breakpoint: for each worker, how many events it has before the first one that the breakpoint happened
+    /// before, and for the breakpoint's own worker the breakpoint's event.
+    ///
+    /// # Errors
+    ///
+    /// [`Refusal::Worker`] or [`Refusal::Event`], where the log has no such event.
+    pub fn upper_line(&self, at: Breakpoint) -> Result<Vec<u32>, Refusal> {
+        let mut words = vec![0; self.workers];
+        Refusal::check(calls::upper_line(
+            self.bytes, at.worker, at.event, &mut words,
+        ))?;
+        Ok(words)
+    }
+
+    /// Whether a cut is consistent: the send of every receive within it is within it. One word for each worker is read, in order.
+    ///
+    /// # Errors
+    ///
+    /// [`Refusal::Words`] where there are fewer words than workers, [`Refusal::Cut`] where a word is over its worker's event count.
+    pub fn is_consistent(&self, cut: &[u32]) -> Result<bool, Refusal> {
+        let mut yes = [0];
+        Refusal::check(calls::cut_test(self.bytes, cut, &mut yes))?;
+        Ok(yes == [1])
+    }
+
+    /// Whether an identifier covers: every worker has a checkpoint with it, and every receive after its worker's checkpoint, of a
+    /// send with index smaller than the sender's checkpoint, has its data logged. Identifier 0 means the initial states.
+    ///
+    /// This is a test of the checkpoints alone. It does not say that a replay from them comes to an end: a receive of the send
+    /// whose index equals the sender's checkpoint is not looked at.
+    ///
+    /// # Errors
+    ///
+    /// None: every number can be asked for.
+    pub fn covers(&self, identifier: u32) -> Result<bool, Refusal> {
+        let mut yes = [0];
+        Refusal::check(calls::covers(self.bytes, identifier, &mut yes))?;
+        Ok(yes == [1])
+    }
+
+    /// The restore plan of a breakpoint: the latest checkpoints from which the events within its lower cut can be replayed.
+    ///
+    /// ```
+    /// use restore_planner::{Breakpoint, Log, WorkerPlan};
+    ///
+    /// # let bytes = include_bytes!(concat!(env!("CARGO_MANIFEST_DIR"), "/examples/tube.log"));
+    /// let plan = Log::new(bytes)?.plan(Breakpoint { worker: 0, event: 2 })?;
+    /// assert_eq!(plan.workers[1], WorkerPlan { cut: 3, start: 1, identifier: 1 });
+    /// assert_eq!(plan.totals.units, 15);
+    /// assert!(plan.totals.has_worker(2));
+    /// # Ok::<(), restore_planner::Refusal>(())
+    /// ```
+    ///
+    /// # Errors
+    ///
+    /// [`Refusal::Worker`] or [`Refusal::Event`], where the log has no such event.
+    pub fn plan(&self, at: Breakpoint) -> Result<Plan, Refusal> {
+        let mut words = vec![0; 3 * self.workers];
+        let mut scratch = self.scratch();
+        let mut totals = [0; 4];
+        Refusal::check(calls::plan(
+            self.bytes,
+            at.worker,
+            at.event,
+            &mut words,
+            &mut scratch,
+            &mut totals,
+        ))?;
+        Ok(Plan::new(&words, totals))
+    }
+
+    /// The restore plan of a breakpoint, and one step for each worker number of the list from the planned starts.
+    ///
+    /// A step that is not done, of a number that is no worker's too, is an answer as any other and the list goes on. Each step
+    /// tests the whole log again and has its positions kept: for a long list on a long log, [`Log::plan`] and
+    /// [`Replay::run`](crate::Replay::run) come to the same plan, answers and last positions sooner.
+    ///
+    /// ```
+    /// use restore_planner::{Breakpoint, Log, Step};
+    ///
+    /// # let bytes = include_bytes!(concat!(env!("CARGO_MANIFEST_DIR"), "/examples/tube.log"));
+    /// let log = Log::new(bytes)?;
+    /// let restored = log.restore_and_replay(Breakpoint { worker: 0, event: 2 }, &[0, 2])?;
+    /// assert_eq!(restored.plan.totals.units, 15);
+    /// assert_eq!(restored.steps[0].answer, Ok(Step::Waits));
+    /// assert_eq!(restored.steps[1].answer, Ok(Step::Done));
+    /// assert_eq!(restored.positions, [1, 1, 1]);
+    /// # Ok::<(), restore_planner::Refusal>(())
+    /// ```
+    ///
+    /// # Errors
+    ///
+    /// [`Refusal::Worker`] or [`Refusal::Event`], where the log has no such event.
+    pub fn restore_and_replay(&self, at: Breakpoint, workers: &[u32]) -> Result<Restored, Refusal> {
+        let width = self.workers + 1;
+        let mut words = vec![0; 3 * self.workers];
+        let mut scratch = self.scratch();
+        let mut positions = vec![0; self.workers];
+        let mut steps = vec![0; workers.len() * width];
+        let mut totals = [0; 4];
+        Refusal::check(calls::restore_and_replay(
+            self.bytes,
+            at.worker,
+            at.event,
+            workers,
+            &mut words,
+            &mut scratch,
+            &mut positions,
+            &mut steps,
+            &mut totals,
+        ))?;
+        Ok(Restored {
+            plan: Plan::new(&words, totals),
+            steps: steps.chunks_exact(width).map(StepRecord::new).collect(),
+            positions,
+        })
+    }
+
+    /// Scratch words for a call.
+    fn scratch(&self) -> Vec<u32> {
+        vec![0; self.workers * self.workers]
+    }
+}
+
+impl<'a> TryFrom<&'a [u8]> for Log<'a> {
+    type Error = Refusal;
+
+    fn try_from(bytes: &'a [u8]) -> Result<Log<'a>, Refusal> {
+        Log::new(bytes)
+    }
+}
+
+/// Prints the log's length and worker count and not its bytes.
+impl fmt::Debug for Log<'_> {
+    fn fmt(&self, f: &mut fmt::Formatter<'_>) -> fmt::Result {
+        f.debug_struct("Log")
+            .field("length", &self.bytes.len())
+            .field("workers", &self.workers)
+            .finish()
+    }
+}

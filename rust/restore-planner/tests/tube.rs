@@ -1,0 +1,282 @@
+//! The library on the tube log, and on bytes that are refused.
+
+use restore_planner::{Advance, Breakpoint, Log, Plan, Refusal, Replay, Step, WorkerPlan};
+
+const TUBE: &[u8] = include_bytes!("../examples/tube.log");
+
+const AT: Breakpoint = at(0, 2);
+
+const fn at(worker: u32, event: u32) -> Breakpoint {
+    Breakpoint { worker, event }
+}
+
+fn tube() -> Log<'static> {
+    Log::new(TUBE).unwrap()
+}
+
+fn tube_plan() -> Plan {
+    tube().plan(AT).unwrap()
+}
+
+fn refused(bytes: &[u8]) -> Refusal {
+    Log::new(bytes).unwrap_err()
+}
+
+#[test]
+fn refusals_have_the_numbers_of_document_01() {
+    let numbers: Vec<u32> = Refusal::LISTED.iter().map(|r| r.number()).collect();
+    assert_eq!(numbers, (1..=16).collect::<Vec<u32>>());
+    assert_eq!(Refusal::check(0), Ok(()));
+    for refusal in Refusal::LISTED {
+        assert_eq!(Refusal::check(refusal.number()), Err(refusal));
+        assert_eq!(Step::check(refusal.number()), Err(refusal));
+    }
+    assert_eq!(Refusal::check(17), Err(Refusal::Unlisted(17)));
+    assert_eq!(Refusal::Unlisted(17).number(), 17);
+}
+
+#[test]
+fn steps_have_the_numbers_of_document_01() {
+    let steps = [
+        (0, Step::Done),
+        (21, Step::AtCut),
+        (22, Step::Waits),
+        (23, Step::Lost),
+    ];
+    for (number, step) in steps {
+        assert_eq!(step.number(), number);
+        assert_eq!(Step::check(number), Ok(step));
+    }
+    assert_eq!(Step::check(20), Err(Refusal::Unlisted(20)));
+}
+
+#[test]
+fn each_refusal_and_step_prints_a_sentence_of_its_own() {
+    let refusals = Refusal::LISTED.into_iter().chain([Refusal::Unlisted(17)]);
+    let mut sentences: Vec<String> = refusals
+        .map(|refusal| {
+            let text = refusal.to_string();
+            let number = format!(" (refusal {})", refusal.number());
+            text.strip_suffix(&number).unwrap().to_string()
+        })
+        .collect();
+    let steps = [Step::Done, Step::AtCut, Step::Waits, Step::Lost];
+    sentences.extend(steps.map(|step| step.to_string()));
+    for (at, sentence) in sentences.iter().enumerate() {
+        assert!(sentence.split(' ').count() >= 4, "{sentence}");
+        assert!(!sentences[..at].contains(sentence), "{sentence}");
+    }
+    assert_eq!(
+        Refusal::Event.to_string(),
+        "the worker has no event of this number; events are numbered from 1 (refusal 13)"
+    );
+}
+
+#[test]
+fn logs_are_accepted_or_refused() {
+    assert_eq!(tube().worker_count(), 3);
+    assert_eq!(tube().as_bytes(), TUBE);
+    assert_eq!(Log::try_from(TUBE).unwrap().as_bytes(), TUBE);
+    assert_eq!(refused(&[]), Refusal::LogLength);
+    assert_eq!(refused(&[1, 0, 1, 0]), Refusal::LogLength);
+    assert_eq!(refused(&[0; 8]), Refusal::Form);
+    assert_eq!(refused(&TUBE[1..]), Refusal::Form);
+    assert_eq!(refused(&[1, 0, 255, 255, 8, 0, 0, 0]), Refusal::WorkerCount);
+    assert_eq!(refused(&TUBE[..211]), Refusal::Header);
+}
+
+#[test]
+fn a_log_and_a_breakpoint_print_briefly() {
+    assert_eq!(format!("{:?}", tube()), "Log { length: 212, workers: 3 }");
+    assert_eq!(AT.to_string(), "0/2");
+}
+
+#[test]
+fn vectors_and_lines() {
+    let log = tube();
+    assert_eq!(log.vector(AT), Ok(vec![2, 3, 1]));
+    assert_eq!(log.upper_line(AT), Ok(vec![2, 3, 3]));
+    let lower = log.lower_cut(AT).unwrap();
+    assert_eq!((lower.cut.as_slice(), lower.visits), (&[2, 3, 2][..], 3));
+    assert!((0..3).all(|worker| lower.has_worker(worker)));
+    assert!(!lower.has_worker(3));
+    let first = log.lower_cut(at(2, 1)).unwrap();
+    assert_eq!(first.cut, [0, 0, 1]);
+    assert_eq!([0, 1, 2].map(|w| first.has_worker(w)), [false, false, true]);
+}
+
+#[test]
+fn a_plan() {
+    let plan = tube_plan();
+    let entry = |cut, start, identifier| WorkerPlan {
+        cut,
+        start,
+        identifier,
+    };
+    assert_eq!(
+        plan.workers,
+        [entry(2, 1, 1), entry(3, 1, 1), entry(2, 0, 0)]
+    );
+    let totals = plan.totals;
+    assert_eq!((totals.visits, totals.events, totals.units), (3, 5, 15));
+    assert!((0..3).all(|worker| totals.has_worker(worker)));
+    for worker in [3, 63, 64, 128, u32::MAX] {
+        assert!(!totals.has_worker(worker));
+    }
+}
+
+#[test]
+fn events_that_the_log_does_not_have() {
+    let log = tube();
+    for (at, refusal) in [
+        (at(3, 1), Refusal::Worker),
+        (at(u32::MAX, 1), Refusal::Worker),
+        (at(0, 0), Refusal::Event),
+        (at(0, 4), Refusal::Event),
+    ] {
+        assert_eq!(log.vector(at), Err(refusal));
+        assert_eq!(log.lower_cut(at), Err(refusal));
+        assert_eq!(log.upper_line(at), Err(refusal));
+        assert_eq!(log.plan(at), Err(refusal));
+        assert_eq!(log.restore_and_replay(at, &[0; 5]), Err(refusal));
+    }
+}
+
+#[test]
+fn the_cut_test_and_the_covering_test() {
+    let log = tube();
+    assert_eq!(log.is_consistent(&[2, 3, 2]), Ok(true));
+    assert_eq!(log.is_consistent(&[2, 3, 1]), Ok(false));
+    assert_eq!(log.is_consistent(&[2, 3, 2, 9]), Ok(true));
+    assert_eq!(log.is_consistent(&[2, 3]), Err(Refusal::Words));
+    assert_eq!(log.is_consistent(&[2, 3, 4]), Err(Refusal::Cut));
+    assert_eq!(log.covers(0), Ok(true));
+    assert_eq!(log.covers(2), Ok(false));
+}
+
+/// Set 1 covers, and yet a replay from its checkpoints loses the send whose index is the sender's checkpoint.
+#[test]
+fn a_covering_set_that_a_replay_cannot_start_from() {
+    assert_eq!(tube().covers(1), Ok(true));
+    let mut plan = tube_plan();
+    for (entry, start) in plan.workers.iter_mut().zip([1, 1, 2]) {
+        entry.start = start;
+    }
+    let mut replay = Replay::new(&tube(), &plan).unwrap();
+    assert_eq!(replay.step(1), Ok(Step::Lost));
+}
+
+#[test]
+fn a_replay_by_steps() {
+    let mut replay = Replay::new(&tube(), &tube_plan()).unwrap();
+    assert_eq!(replay.positions(), [1, 1, 0]);
+    assert_eq!(replay.step(0), Ok(Step::Waits));
+    assert_eq!(replay.step(64), Err(Refusal::Worker));
+    for worker in [2, 2, 1, 1, 0] {
+        assert!(!replay.is_finished());
+        assert_eq!(replay.step(worker), Ok(Step::Done));
+    }
+    assert!(replay.is_finished());
+    assert_eq!(replay.step(1), Ok(Step::AtCut));
+    assert_eq!(replay.positions(), [2, 3, 2]);
+}
+
+#[test]
+fn a_replay_that_advances() {
+    let mut replay = Replay::new(&tube(), &tube_plan()).unwrap();
+    let mut positions = replay.positions().to_vec();
+    let mut steps = 0;
+    while let Advance::Stepped(worker) = replay.advance().unwrap() {
+        positions[worker as usize] += 1;
+        assert_eq!(replay.positions(), positions);
+        steps += 1;
+    }
+    assert_eq!(steps, tube_plan().totals.events);
+    assert!(replay.is_finished());
+    assert_eq!(replay.advance(), Ok(Advance::Finished));
+    assert_eq!(replay.positions(), [2, 3, 2]);
+}
+
+#[test]
+fn a_replay_of_a_list() {
+    let mut replay = Replay::new(&tube(), &tube_plan()).unwrap();
+    assert_eq!(
+        replay.run(&[0, 2, 2, 9, 1, 1, 0, 0]),
+        Ok(vec![
+            Ok(Step::Waits),
+            Ok(Step::Done),
+            Ok(Step::Done),
+            Err(Refusal::Worker),
+            Ok(Step::Done),
+            Ok(Step::Done),
+            Ok(Step::Done),
+            Ok(Step::AtCut),
+        ])
+    );
+    assert!(replay.is_finished());
+    assert_eq!(replay.run(&[]), Ok(vec![]));
+}
+
+#[test]
+fn a_replay_from_other_starts() {
+    let mut plan = tube_plan();
+    plan.workers[2].start = 2;
+    let mut replay = Replay::new(&tube(), &plan).unwrap();
+    assert_eq!(replay.step(1), Ok(Step::Lost));
+    assert_eq!(replay.advance(), Ok(Advance::Stuck));
+    assert_eq!(replay.positions(), [1, 1, 2]);
+}
+
+#[test]
+fn plans_that_are_not_the_logs() {
+    let refusal = |plan: &Plan| Replay::new(&tube(), plan).unwrap_err();
+    let mut plan = tube_plan();
+    plan.workers[2].start = 3;
+    assert_eq!(refusal(&plan), Refusal::Cut);
+    plan.workers[2].cut = 4;
+    assert_eq!(refusal(&plan), Refusal::Cut);
+    plan.workers.pop();
+    assert_eq!(refusal(&plan), Refusal::Words);
+
+    let mut plan = tube_plan();
+    plan.workers.push(plan.workers[0]);
+    let replay = Replay::new(&tube(), &plan).unwrap();
+    assert_eq!(replay.positions(), [1, 1, 0]);
+}
+
+#[test]
+fn a_plan_and_a_list_of_its_steps() {
+    let log = tube();
+    let restored = log
+        .restore_and_replay(AT, &[0, 2, 2, u32::MAX, 1, 1])
+        .unwrap();
+    assert_eq!(restored.plan, tube_plan());
+    let steps: Vec<_> = restored
+        .steps
+        .iter()
+        .map(|step| (step.answer, step.positions.as_slice()))
+        .collect();
+    assert_eq!(
+        steps,
+        [
+            (Ok(Step::Waits), &[1, 1, 0][..]),
+            (Ok(Step::Done), &[1, 1, 1]),
+            (Ok(Step::Done), &[1, 1, 2]),
+            (Err(Refusal::Worker), &[1, 1, 2]),
+            (Ok(Step::Done), &[1, 2, 2]),
+            (Ok(Step::Done), &[1, 3, 2]),
+        ]
+    );
+    assert_eq!(restored.positions, [1, 3, 2]);
+    assert!(!restored.is_finished());
+
+    let whole = log.restore_and_replay(AT, &[2, 2, 1, 1, 0, 0]).unwrap();
+    assert!(whole.is_finished());
+    let answers = whole.steps.iter().map(|step| step.answer);
+    let done = answers.filter(|&answer| answer == Ok(Step::Done)).count();
+    assert_eq!(done as u64, whole.plan.totals.events);
+
+    let none = log.restore_and_replay(AT, &[]).unwrap();
+    assert_eq!((none.plan, none.steps), (tube_plan(), vec![]));
+    assert_eq!(none.positions, [1, 1, 0]);
+}
