@@ -21,8 +21,17 @@ CRATE = os.path.join(os.path.dirname(os.path.abspath(__file__)), "..", "crates",
 # The largest input of `plan`.
 LARGEST = 65536
 
-# The content of each case, by its name, in the order in which they are run.
+# The content of each case, by its name, in the order in which they are run; and the line of this script that makes it.
 CONTENT = {}
+LINE = {}
+
+
+def line_being_run():
+    """The line of this script, outside its functions, that is being run."""
+    frame = sys._getframe()
+    while frame.f_code.co_name != "<module>":
+        frame = frame.f_back
+    return frame.f_lineno
 
 
 def case(name, number, log, worker=0, event=1):
@@ -33,6 +42,7 @@ def case(name, number, log, worker=0, event=1):
     assert len(content) <= LARGEST, name + " is too long for an input of plan"
     assert reference.refusal(log) == number, "%s: %d by the reference" % (name, reference.refusal(log))
     CONTENT[name] = content
+    LINE[name] = line_being_run()
 
 
 # The log that most cases change in one place. It has 112 bytes: the header 48, events of worker 0 at 48, its checkpoint
