@@ -1,13 +1,6 @@
 pub mod Order
 pub mod Components
-pub mod Recursion
-pub mod LowerCut
-pub mod VisitCount
 pub mod CutTest
-pub mod UpperLine
-pub mod WorkersWord
 pub mod Allowed
 pub mod Row
 pub mod Peers
-pub mod Raising
-pub mod Turns

@@ -1,14 +1,14 @@
 -- What an accepted log says of an event that was read, whatever its kind: a send names event 0, so the kind need not be asked for.
 -- Assumes nothing.
 use mathlib.Core.Path.{_≡_, refl, sym, _∙_}
-use mathlib.Core.Bool.{Bool, true, false, _&&_, _||_, false≢true, and-false}
-use mathlib.Core.Logic.{⊎-elim, _≢_}
+use mathlib.Core.Bool.{Bool, true, false, _&&_, false≢true}
+use mathlib.Core.Logic.{⊎-elim}
 use mathlib.Core.List.{List}
 use Prim.Native.Nat.{ℕ, _+_, _<_, max}
 use native.Mathlib.Nat.{max-zero}
 use native.Mathlib.Omega.{arith}
-use borrow.Author.Tests.{le-ltb, ne-eqb}
-use lib.Dec.{eqb, ltb}
+use borrow.Author.Tests.{le-ltb}
+use lib.Dec.{ltb}
 use lib.ListN.{set}
 use lib.Seq.{set-getD}
 use Rattle.log.specs.declared.Event.{Event}
@@ -19,7 +19,6 @@ use Rattle.accept.proofs.Accepted.{well-formed}
 use Rattle.lent.specs.Lent.{at}
 use Rattle.causality.specs.Cut.{lacks}
 use Rattle.causality.specs.Inner.Row.{noted}
-use Rattle.causality.specs.Inner.Raising.{blocked}
 
 -- event k + 1 of worker w
 module _ (s : List ℕ) (accepted : logRefusal s ≡ 0) (w k : ℕ) (e : Event) (q : e ≡ eventOf (workersOf s) w (k + 1)) (h : k < eventCount (workersOf s) w) where
@@ -28,7 +27,7 @@ module _ (s : List ℕ) (accepted : logRefusal s ≡ 0) (w k : ℕ) (e : Event) 
   peer-within = rw q (well-formed s accepted .peers w (k + 1) (omega arith) (omega arith))
 
   -- what is no receive names no event
-  names-none : isReceive e ≡ false → e .send ≡ 0
+  pub names-none : isReceive e ≡ false → e .send ≡ 0
   names-none r =
       ⊎-elim (λ send. rw q (well-formed s accepted .nameless w (k + 1) (omega arith) (omega arith) send))
       (λ receive. absurd (false≢true (sym (rw q at r) ∙ receive)))
@@ -43,7 +42,7 @@ module _ (s : List ℕ) (accepted : logRefusal s ≡ 0) (w k : ℕ) (e : Event) 
       go true r = rw r
       go false r = rw (r, names-none r, max-zero (at words (e .peer))) (set-getD words (e .peer) 0)
 
-  -- .. or compared with a cut ..
+  -- .. or compared with a cut
   pub lacks-any : (cut : List ℕ) → ltb (at cut (e .peer)) (e .send) ≡ lacks (workersOf s) cut w k
   unfolding lacks
   lacks-any cut = rw (← q) (go (isReceive e) refl)
@@ -51,16 +50,3 @@ module _ (s : List ℕ) (accepted : logRefusal s ≡ 0) (w k : ℕ) (e : Event) 
       go : (b : Bool) → isReceive e ≡ b → ltb (at cut (e .peer)) (e .send) ≡ (isReceive e && ltb (at cut (e .peer)) (e .send))
       go true r = rw r
       go false r = rw (r, names-none r, le-ltb (at cut (e .peer)) 0 (omega arith))
-
-  -- .. or with a line and the breakpoint event
-  pub blocked-any : (i event : ℕ) (line : List ℕ) → 0 < event
-      → (ltb (at line (e .peer)) (e .send) || (eqb (e .peer) i && eqb (e .send) event)) ≡ blocked (workersOf s) i event line w k
-  unfolding blocked
-  blocked-any i event line positive = rw (← q) (go (isReceive e) refl)
-    where
-      go : (b : Bool) → isReceive e ≡ b → (ltb (at line (e .peer)) (e .send) || (eqb (e .peer) i && eqb (e .send) event))
-          ≡ (isReceive e && (ltb (at line (e .peer)) (e .send) || (eqb (e .peer) i && eqb (e .send) event)))
-      go true r = rw r
-      go false r =
-          let other : 0 ≢ event = omega arith in
-          rw (r, names-none r, le-ltb (at line (e .peer)) 0 (omega arith), ne-eqb 0 event other) (and-false (eqb (e .peer) i))

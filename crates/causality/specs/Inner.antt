@@ -1,4 +1,2 @@
--- What only the contracts of this crate's own functions cite.
+-- What only the contracts of functions on the way cite.
 pub mod Row
-pub mod Raising
-pub mod Visiting

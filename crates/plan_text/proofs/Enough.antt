@@ -18,9 +18,9 @@ use Rattle.lent.proofs.Lent.{words-enough, or-else-first}
 use Rattle.lent.specs.Lent.{orElse, wordsRefusal, onto, unlessRefused}
 use Rattle.accept.specs.Refusal.{given}
 use Rattle.accept.proofs.Accepted.{well-formed}
-use Rattle.causality.specs.Figure2.{lowerCut}
+use Rattle.lower_cut.specs.Figure2.{lowerCut}
 use Rattle.causality.specs.Refusals.{breakpointRefusal, scratchRefusal, lineRefusal, searchRefusal}
-use Rattle.causality.specs.Upper.{upperAt, upperLine}
+use Rattle.upper_line.specs.Upper.{upperAt, upperLine}
 use Rattle.causality.proofs.Allowed.{breakpoint-ok}
 use Rattle.restore.specs.Plan.{planWords}
 use Rattle.restore.specs.declared.Totals.{Totals}

@@ -11,17 +11,17 @@ use Rattle.lent.specs.Lent.{orElse}
 use Rattle.accept.specs.Tube.{tube, tubeLog}
 use Rattle.accept.proofs.Tube.{tube-workers, tube-accepted}
 use Rattle.accept.specs.Refusal.{given}
-use Rattle.causality.specs.Calls.{foundCut}
+use Rattle.lower_cut.specs.Calls.{foundCut}
 use Rattle.restore.specs.Calls.{foundPlan}
 use Rattle.causality.specs.Cut.{namedOf, component}
-use Rattle.causality.specs.Figure2.{turnIf, turn, visit, visitAt, beginning, figure2}
+use Rattle.lower_cut.specs.Figure2.{turnIf, turn, visit, visitAt, beginning, figure2}
 use Rattle.causality.specs.Refusals.{workerRefusal, eventRefusal, breakpointRefusal}
-use Rattle.causality.specs.Upper.{happened, upperAt, upperLine}
-use Rattle.causality.specs.Workers.{bitOf, workersWord}
+use Rattle.upper_line.specs.Upper.{happened, upperAt, upperLine}
+use Rattle.lower_cut.specs.Workers.{bitOf, workersWord}
 use Rattle.restore.specs.Choice.{mayChoose}
 use Rattle.restore.specs.Plan.{loses, workerLoses, someLoses, usable, indexIf, rolledBackAt, rolledBack, planStarts, standsAt, identifierOf, identifierAt, planWord, planWords}
-use Rattle.restore.specs.Words.{cutIn, startIn}
-use Rattle.restore.specs.Cost.{replayed, eventsOf, eventUnits, workerUnits, unitsOf, builtIn}
+use Rattle.cost.specs.Words.{cutIn, startIn}
+use Rattle.cost.specs.Cost.{replayed, eventsOf, eventUnits, workerUnits, unitsOf, builtIn}
 use Rattle.plan_text.specs.Text.{ascii, spelled, decimal, withNumber, fourNumbers, breakpointLine, processLine, processLines, foundText, textOf}
 use Rattle.plan_text.proofs.Enough.{accepted-text}
 

@@ -11,12 +11,12 @@ use Rattle.bytes_le.specs.Little.{le}
 use Rattle.log.specs.Model.{Workers, workerCount, roleOf}
 use Rattle.lent.specs.Lent.{at}
 use Rattle.accept.specs.Refusal.{Given, given}
-use Rattle.causality.specs.Figure2.{lowerCut}
+use Rattle.lower_cut.specs.Figure2.{lowerCut}
 use Rattle.causality.specs.Refusals.{breakpointRefusal}
-use Rattle.causality.specs.Upper.{upperLine}
+use Rattle.upper_line.specs.Upper.{upperLine}
 use Rattle.restore.specs.Calls.{foundPlan}
 use Rattle.restore.specs.Plan.{planWords}
-use Rattle.restore.specs.Words.{cutIn, startIn}
+use Rattle.cost.specs.Words.{cutIn, startIn}
 
 -- the codes of a text's characters
 abbrev pub ascii : String → List ℕ

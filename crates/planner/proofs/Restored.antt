@@ -12,12 +12,12 @@ use Rattle.log.specs.Model.{Workers, workerCount}
 use Rattle.accept.specs.Refusal.{given}
 use Rattle.accept.specs.WellFormed.{WellFormed}
 use Rattle.causality.specs.Happened.{IsEvent}
-use Rattle.causality.specs.Figure2.{lowerCut}
+use Rattle.lower_cut.specs.Figure2.{lowerCut}
 use Rattle.causality.specs.Refusals.{searchRefusal}
 use Rattle.causality.proofs.Allowed.{SearchLent, search-ok}
 use Rattle.restore.specs.Calls.{foundPlan, planTotals}
 use Rattle.restore.specs.Plan.{planStarts}
-use Rattle.restore.specs.Words.{startsIn}
+use Rattle.cost.specs.Words.{startsIn}
 use Rattle.restore.proofs.Written.{plan-long}
 use Rattle.replay.specs.Machine.{listed, stepWords}
 use Rattle.replay.specs.Calls.{machineRun, machineAfter}

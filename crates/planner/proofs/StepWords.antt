@@ -14,7 +14,7 @@ use Rattle.lent.specs.Lent.{wordsRefusal}
 use Rattle.lent.proofs.Lent.{words-short, words-enough}
 use Rattle.log.specs.Model.{Workers}
 use Rattle.accept.specs.Refusal.{Given}
-use Rattle.restore.specs.Words.{cutsIn, startsIn}
+use Rattle.cost.specs.Words.{cutsIn, startsIn}
 use Rattle.replay.specs.Machine.{stepOf, listed, stepWords}
 use Rattle.replay.specs.Calls.{machineAnswer, machineMoved, machineRun, stepAnswer, stepAfter}
 use Rattle.replay.proofs.Steps.{moved-long}

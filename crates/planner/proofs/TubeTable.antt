@@ -10,12 +10,12 @@ use Rattle.log.specs.Layout.{field, section, eventSection, checkpointSection, e
 use Rattle.accept.specs.Tube.{tube, tubeLog}
 use Rattle.accept.proofs.Tube.{tube-workers}
 use Rattle.causality.specs.Cut.{namedOf, component, vector, lacks, workerLacks, isConsistent}
-use Rattle.causality.specs.Figure2.{turnIf, turn, visit, visitAt, beginning, figure2}
-use Rattle.causality.specs.Upper.{happened, upperAt, upperLine}
+use Rattle.lower_cut.specs.Figure2.{turnIf, turn, visit, visitAt, beginning, figure2}
+use Rattle.upper_line.specs.Upper.{happened, upperAt, upperLine}
 use Rattle.restore.specs.Choice.{mayChoose}
 use Rattle.restore.specs.Plan.{loses, workerLoses, someLoses, usable, indexIf, rolledBackAt, rolledBack, planStarts}
-use Rattle.restore.specs.Cost.{replayed, eventsOf, eventUnits, workerUnits, unitsOf, builtIn}
-use Rattle.restore.specs.Covering.{isSet, withoutSet, indexOf, setIndex, uncovered, workerUncovered, coveringSet}
+use Rattle.cost.specs.Cost.{replayed, eventsOf, eventUnits, workerUnits, unitsOf, builtIn}
+use Rattle.covering.specs.Covering.{isSet, withoutSet, indexOf, setIndex, uncovered, workerUncovered, coveringSet}
 use Rattle.replay.specs.Machine.{receiveAnswer, eventAnswer, answerOf}
 use Rattle.planner.specs.Tube.{tubeLogged, TubeTable}
 

@@ -6,7 +6,7 @@ use Prim.Native.Nat.{ℕ, _+_, _*_}
 use Rattle.lent.specs.Lent.{orElse, wordsRefusal}
 use Rattle.log.specs.Model.{Workers, workerCount}
 use Rattle.accept.specs.Refusal.{Given}
-use Rattle.causality.specs.Figure2.{lowerCut}
+use Rattle.lower_cut.specs.Figure2.{lowerCut}
 use Rattle.causality.specs.Refusals.{searchRefusal}
 use Rattle.restore.specs.Plan.{planStarts, planWords}
 use Rattle.replay.specs.Machine.{Step}

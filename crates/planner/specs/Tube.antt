@@ -8,11 +8,11 @@ use lib.ListN.{set}
 use Rattle.log.specs.Model.{Workers}
 use Rattle.accept.specs.Tube.{tube}
 use Rattle.causality.specs.Cut.{vector, isConsistent}
-use Rattle.causality.specs.Figure2.{figure2, lowerCut}
-use Rattle.causality.specs.Upper.{upperLine}
+use Rattle.lower_cut.specs.Figure2.{figure2, lowerCut}
+use Rattle.upper_line.specs.Upper.{upperLine}
 use Rattle.restore.specs.Plan.{planStarts}
-use Rattle.restore.specs.Cost.{eventsOf, unitsOf, builtIn}
-use Rattle.restore.specs.Covering.{coveringSet}
+use Rattle.cost.specs.Cost.{eventsOf, unitsOf, builtIn}
+use Rattle.covering.specs.Covering.{coveringSet}
 use Rattle.replay.specs.Machine.{answerOf}
 
 -- the tube log "with receive 2/2 of kind 3": that receive is event 2 of worker 1, and byte 124 is its kind

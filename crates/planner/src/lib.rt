@@ -2,8 +2,8 @@
 
 mod stepping;
 
-use causality::Cut;
 use causality::Test;
+use lower_cut::Cut;
 use restore::Totals;
 ghost use mathlib.Core.Path.{_≡_};
 ghost use mathlib.Core.List.{[], _∷_};
@@ -14,11 +14,11 @@ ghost use Rattle.log.specs.Layout.{workersOf};
 ghost use Rattle.log.specs.Model.{workerCount};
 ghost use Rattle.accept.specs.Refusal.{logRefusal, given};
 ghost use Rattle.causality.specs.Cut.{vector, isConsistent};
-ghost use Rattle.causality.specs.Figure2.{lowerCut};
-ghost use Rattle.causality.specs.Upper.{upperLine};
+ghost use Rattle.lower_cut.specs.Figure2.{lowerCut};
+ghost use Rattle.upper_line.specs.Upper.{upperLine};
 ghost use Rattle.causality.specs.Refusals.{lineRefusal, searchRefusal, testRefusal};
-ghost use Rattle.causality.specs.Calls.{foundCut, cutTotals};
-ghost use Rattle.restore.specs.Covering.{coveringSet};
+ghost use Rattle.lower_cut.specs.Calls.{foundCut, cutTotals};
+ghost use Rattle.covering.specs.Covering.{coveringSet};
 ghost use Rattle.restore.specs.Calls.{foundPlan, planTotals};
 ghost use Rattle.replay.specs.Machine.{listed, answerWord, stepWords};
 ghost use Rattle.replay.specs.Calls.{stepAnswer, stepAfter, stepsRefusal, stepsAfter, machineRun};
@@ -48,7 +48,7 @@ pub extern "C" fn upper_line(log: &[u8], worker: u32, event: u32, words: &mut [u
     ensures answer { λ r. ⌜ r ≡ lineRefusal (given (now (log .entry))) worker event 1 (length (now (words .entry))) 0 ⌝ }
     ensures words { λ r. ⌜ now (words .exit) ≡ unlessRefused r (upperLine (workersOf (now (log .entry))) worker event) (now (words .entry)) ⌝ }
 {
-    causality::upper_line(log, worker, event, words)
+    upper_line::upper_line(log, worker, event, words)
 }
 
 // Writes what the lower cut returns.
@@ -88,7 +88,7 @@ pub extern "C" fn lower_cut(
     ensures kept { λ r. ⌜ now (scratch .exit) ≡ now (scratch .entry) ⌝ }
 {
     let others = lent::words_refusal(totals.len(), 2);
-    let found = causality::lower_cut(log, worker, event, others, words, scratch);
+    let found = lower_cut::lower_cut(log, worker, event, others, words, scratch);
     let refusal = found.refusal;
     if refusal != 0 {
         return refusal;
@@ -164,7 +164,7 @@ pub extern "C" fn covers(log: &[u8], identifier: u32, answer: &mut [u32]) -> u32
     ensures word { λ r. ⌜ now (answer .exit) ≡ unlessRefused r (wordOf (coveringSet (workersOf (now (log .entry))) identifier) ∷ []) (now (answer .entry)) ⌝ }
 {
     let others = lent::words_refusal(answer.len(), 1);
-    write_answer(restore::covers(log, identifier, others), answer)
+    write_answer(covering::covers(log, identifier, others), answer)
 }
 
 // One step of a worker, over the words of a plan.

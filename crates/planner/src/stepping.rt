@@ -8,7 +8,7 @@ ghost use Rattle.ranges.specs.Fold.{tabulate};
 ghost use Rattle.log.specs.Layout.{workersOf};
 ghost use Rattle.log.specs.Model.{workerCount};
 ghost use Rattle.accept.specs.Refusal.{logRefusal, given};
-ghost use Rattle.restore.specs.Words.{startIn, startsIn};
+ghost use Rattle.cost.specs.Words.{startIn, startsIn};
 ghost use Rattle.replay.specs.Machine.{listed, stepWords};
 ghost use Rattle.replay.specs.Calls.{machineRun, machineAfter};
 ghost use Rattle.replay.specs.Inner.State.{IsState};

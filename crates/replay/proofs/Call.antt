@@ -21,12 +21,12 @@ use Rattle.accept.specs.Refusal.{Given}
 use Rattle.accept.specs.WellFormed.{WellFormed}
 use Rattle.causality.specs.Cut.{IsCut}
 use Rattle.causality.specs.Happened.{IsEvent}
-use Rattle.causality.specs.Figure2.{lowerCut}
+use Rattle.lower_cut.specs.Figure2.{lowerCut}
 use Rattle.causality.specs.Refusals.{workerRefusal}
-use Rattle.causality.proofs.LowerCut.{lower-is}
+use Rattle.lower_cut.proofs.LowerCut.{lower-is}
 use Rattle.restore.specs.Plan.{planStarts, planWords}
-use Rattle.restore.specs.Words.{cutIn, startIn, cutsIn, startsIn}
-use Rattle.restore.proofs.Held.{cuts-at}
+use Rattle.cost.specs.Words.{cutIn, startIn, cutsIn, startsIn}
+use Rattle.cost.proofs.Held.{cuts-at}
 use Rattle.restore.proofs.Written.{plan-long, plan-cut, plan-start, plan-cuts, plan-starts-in}
 use Rattle.restore.proofs.Latest.{plan-starts-latest}
 use Rattle.replay.specs.Machine.{Step, answerOf, movedBy, moved, stepOf, run}

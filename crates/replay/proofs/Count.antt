@@ -13,7 +13,7 @@ use Rattle.ranges.proofs.Sum.{sum-same, sum-tight, sum-raised, sum-add}
 use Rattle.log.specs.Model.{Workers, workerCount}
 use Rattle.lent.specs.Lent.{at}
 use Rattle.causality.specs.Cut.{Within}
-use Rattle.restore.specs.Cost.{replayed, eventsOf}
+use Rattle.cost.specs.Cost.{replayed, eventsOf}
 use Rattle.replay.specs.Machine.{answerOf, moved, stepOf, run, positionsAfter, doneIf, doneIn, AtCut}
 use Rattle.replay.proofs.Steps.{starts-between, done-ready, refused, done-raises, moved-long}
 use Rattle.replay.proofs.Lists.{after-between}

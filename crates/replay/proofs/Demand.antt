@@ -12,17 +12,17 @@ use Rattle.log.proofs.Read.{worker-within}
 use Rattle.accept.specs.WellFormed.{WellFormed}
 use Rattle.causality.specs.Happened.{IsEvent}
 use Rattle.causality.specs.Cut.{IsCut, Consistent, Within}
-use Rattle.causality.specs.Calls.{foundCut}
-use Rattle.causality.specs.Figure2.{lowerCut}
-use Rattle.causality.proofs.LowerCut.{lower-is, lower-happened}
-use Rattle.causality.proofs.VisitCount.{visits-few}
+use Rattle.lower_cut.specs.Calls.{foundCut}
+use Rattle.lower_cut.specs.Figure2.{lowerCut}
+use Rattle.lower_cut.proofs.LowerCut.{lower-is, lower-happened}
+use Rattle.lower_cut.proofs.VisitCount.{visits-few}
 use Rattle.restore.specs.Choice.{startsOf}
 use Rattle.restore.specs.Plan.{planChoice, planStarts, planAt, planWord, planWords}
-use Rattle.restore.specs.Words.{cutsIn, startsIn}
+use Rattle.cost.specs.Words.{cutsIn, startsIn}
 use Rattle.restore.specs.Calls.{foundPlan, planTotals}
 use Rattle.restore.proofs.Written.{plan-long, plan-cut, plan-cuts, plan-starts-in}
 use Rattle.restore.proofs.Latest.{AreLatest, plan-latest, plan-starts, plan-starts-latest}
-use Rattle.restore.proofs.Costs.{events-fall, units-fall}
+use Rattle.cost.proofs.Costs.{events-fall, units-fall}
 use Rattle.replay.specs.Machine.{run, positionsAfter, listed, stepWords}
 use Rattle.replay.specs.Calls.{machineRun, machineAfter}
 use Rattle.replay.specs.Demand3.{Rival, Demand3}

@@ -9,7 +9,7 @@ use borrow.Rule.Slice.PartMut.{putMid}
 use lib.ListN.{length, take, drop, getD, set, length-set, length-append, drop-of-length-le}
 use lib.Seq.{take-suc, take-at, drop-at, drop-drop, drop-cons, set-at, length-take-le, take-all}
 use Rattle.log.specs.Model.{Workers}
-use Rattle.restore.specs.Words.{cutsIn, startsIn}
+use Rattle.cost.specs.Words.{cutsIn, startsIn}
 use Rattle.replay.specs.Machine.{Step, stepOf, moved, run, positionsAfter, listed, answerWord}
 use Rattle.replay.specs.Calls.{machineAnswer, machineMoved, machineRun, machineAfter}
 use Rattle.replay.specs.Inner.State.{IsState}

@@ -10,7 +10,7 @@ use Rattle.lent.specs.Lent.{at, orElse, wordsRefusal}
 use Rattle.log.specs.Model.{Workers, workerCount, eventCount}
 use Rattle.accept.specs.Refusal.{Given}
 use Rattle.causality.specs.Refusals.{workerRefusal}
-use Rattle.restore.specs.Words.{cutIn, startIn, cutsIn, startsIn}
+use Rattle.cost.specs.Words.{cutIn, startIn, cutsIn, startsIn}
 use Rattle.replay.specs.Machine.{Step, answerOf, movedBy, moved, run, positionsAfter}
 
 -- 16: "some worker without start ≤ position ≤ cut ≤ count"

@@ -10,11 +10,11 @@ use Rattle.log.specs.declared.Checkpoint.{Checkpoint}
 use Rattle.log.specs.Model.{Workers, workerCount, initial}
 use Rattle.causality.specs.Happened.{IsEvent, HappenedBefore}
 use Rattle.causality.specs.Cut.{Within, receivesWithin}
-use Rattle.causality.specs.Figure2.{lowerCut}
+use Rattle.lower_cut.specs.Figure2.{lowerCut}
 use Rattle.restore.specs.Choice.{IsChoice, startsOf}
 use Rattle.restore.specs.Plan.{planChoice, planWords}
-use Rattle.restore.specs.Words.{cutIn, startIn, cutsIn, startsIn}
-use Rattle.restore.specs.Cost.{Table, eventsOf, unitsOf, builtIn}
+use Rattle.cost.specs.Words.{cutIn, startIn, cutsIn, startsIn}
+use Rattle.cost.specs.Cost.{Table, eventsOf, unitsOf, builtIn}
 use Rattle.restore.specs.Calls.{foundPlan, planTotals}
 use Rattle.replay.specs.Machine.{listed, stepWords, doneIn, AtCut, Works}
 use Rattle.replay.specs.Calls.{machineAnswer, machineRun, machineAfter}

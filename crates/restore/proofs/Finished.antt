@@ -16,9 +16,9 @@ use Rattle.ranges.proofs.Tabulate.{length-tabulate, getD-tabulate, tabulate-lis
 use Rattle.log.specs.Model.{Workers, workerCount}
 use Rattle.lent.specs.Lent.{at}
 use Rattle.restore.specs.Plan.{identifierOf, identifierAt, planStarts, planWord, planWords}
-use Rattle.restore.specs.Words.{cutIn, startIn}
+use Rattle.cost.specs.Words.{cutIn, startIn}
 use Rattle.restore.specs.Inner.Rollback.{numberIn, Settled, finishedWord, finished}
-use Rattle.restore.proofs.Held.{starts-in-at}
+use Rattle.cost.proofs.Held.{starts-in-at}
 
 -- the words when the workers below n have their identifier
 pub record Finishing (log : Workers) (words₀ words : List ℕ) (n : ℕ) : Type 0 where

@@ -1,12 +1,8 @@
 pub mod Choosable
 pub mod Startable
 pub mod Chosen
-pub mod Costs
-pub mod CoveringSet
 pub mod RolledBack
 pub mod Latest
-pub mod Held
-pub mod SetNumber
 pub mod Placed
 pub mod Settling
 pub mod Begun

@@ -16,7 +16,7 @@ use Rattle.ranges.proofs.Bools.{and-true-left, and-true-right}
 use Rattle.log.specs.Model.{Workers, checkpointOf}
 use Rattle.log.proofs.Read.{checkpoint-initial}
 use Rattle.restore.specs.Choice.{mayChoose}
-use Rattle.restore.specs.Words.{cutIn, startIn}
+use Rattle.cost.specs.Words.{cutIn, startIn}
 use Rattle.restore.proofs.Choosable.{may-initial}
 use Rattle.restore.specs.Inner.Rollback.{numberIn, mayStartBelow, numberBelow, placed}
 

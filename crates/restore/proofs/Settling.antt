@@ -25,13 +25,13 @@ use Rattle.lent.specs.Lent.{at}
 use Rattle.causality.specs.Cut.{IsCut}
 use Rattle.restore.specs.Choice.{mayChoose, IsChoice, startsOf, Startable}
 use Rattle.restore.specs.Plan.{identifierOf, identifierAt}
-use Rattle.restore.specs.Words.{startIn, cutsIn, startsIn}
+use Rattle.cost.specs.Words.{startIn, cutsIn, startsIn}
 use Rattle.restore.specs.Inner.Rollback.{numberIn, numberBelow, placed, resent, pending, RollingBack, Looked, Settled}
 use Rattle.restore.proofs.Choosable.{may-recorded}
 use Rattle.restore.proofs.Startable.{starts-at, unlogged-receive}
 use Rattle.restore.proofs.Chosen.{IndexOffered, choice-starts, identifier-last}
 use Rattle.restore.proofs.Latest.{AreLatest, latest-is-plan}
-use Rattle.restore.proofs.Held.{starts-in-at, cuts-are}
+use Rattle.cost.proofs.Held.{starts-in-at, cuts-are}
 use Rattle.restore.proofs.Placed.{IsBelow, number-below, placed-length, placed-cut, placed-start, placed-start-other, placed-number, placed-number-other}
 
 -- a choice's checkpoint with index below the bound is at most the last one

@@ -15,15 +15,15 @@ use Rattle.accept.specs.Refusal.{logRefusal}
 use Rattle.accept.specs.WellFormed.{WellFormed}
 use Rattle.accept.proofs.Accepted.{well-formed}
 use Rattle.causality.specs.Happened.{IsEvent}
-use Rattle.causality.specs.Figure2.{lowerCut}
-use Rattle.causality.proofs.LowerCut.{lower-is}
+use Rattle.lower_cut.specs.Figure2.{lowerCut}
+use Rattle.lower_cut.proofs.LowerCut.{lower-is}
 use Rattle.lent.specs.Lent.{at}
 use Rattle.causality.specs.Cut.{IsCut}
 use Rattle.restore.specs.Plan.{planStarts, planWord, planWords}
-use Rattle.restore.specs.Words.{cutIn, startIn, cutsIn, startsIn}
-use Rattle.restore.specs.Inner.Held.{IsHeld}
+use Rattle.cost.specs.Words.{cutIn, startIn, cutsIn, startsIn}
+use Rattle.cost.specs.Inner.Held.{IsHeld}
 use Rattle.restore.proofs.Latest.{plan-starts-latest}
-use Rattle.restore.proofs.Held.{cuts-are, starts-are}
+use Rattle.cost.proofs.Held.{cuts-are, starts-are}
 
 -- the words when the cut of the workers below n has been spread
 pub record Spread (cut words : List ℕ) (n : ℕ) : Type 0 where

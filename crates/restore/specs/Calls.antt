@@ -5,11 +5,11 @@ use mathlib.Core.List.{List, [], _∷_}
 use Prim.Native.Nat.{ℕ}
 use lib.Dec.{eqb}
 use Rattle.log.specs.Model.{Workers}
-use Rattle.causality.specs.Figure2.{lowerCut}
-use Rattle.causality.specs.Calls.{foundCut}
+use Rattle.lower_cut.specs.Figure2.{lowerCut}
+use Rattle.lower_cut.specs.Calls.{foundCut}
 use Rattle.restore.specs.declared.Totals.{Totals}
 use Rattle.restore.specs.Plan.{planStarts}
-use Rattle.restore.specs.Cost.{eventsOf, unitsOf, builtIn}
+use Rattle.cost.specs.Cost.{eventsOf, unitsOf, builtIn}
 
 -- "the plan returns these with events and units": visits and the workers word are the lower cut's
 unfoldable pub foundPlan : Workers → ℕ → ℕ → Totals

@@ -6,7 +6,7 @@ ghost use Rattle.accept.specs.Refusal.{logRefusal};
 ghost use Rattle.restore.specs.Choice.{mayChoose};
 
 // Whether checkpoint c of worker w may be chosen.
-pub(crate) fn may_choose(log: &[u8], w: usize, c: u32) -> bool
+pub fn may_choose(log: &[u8], w: usize, c: u32) -> bool
     requires { ⌜ logRefusal (now log) ≡ 0 ⌝ }
     ensures answer { λ r. ⌜ r ≡ mayChoose (workersOf (now (log .entry))) w c ⌝ }
 {

@@ -1,27 +1,23 @@
-// The restore plan of a breakpoint event, and the test of covering sets.
+// The restore plan of a breakpoint event.
 
-mod choice;
-mod cost;
-mod covering;
+pub mod choice;
 mod starts;
-mod words;
 
-use causality::Cut;
-use causality::Test;
+use lower_cut::Cut;
 ghost use mathlib.Core.Path.{_≡_};
 ghost use Prim.Native.Nat.{_*_, _<_};
 ghost use lib.ListN.{length};
-ghost use Rattle.lent.specs.Lent.{orElse, unlessRefused, KeptIfRefused};
+ghost use Rattle.ranges.specs.Fold.{tabulate};
+ghost use Rattle.lent.specs.Lent.{unlessRefused, KeptIfRefused};
 ghost use Rattle.log.specs.Layout.{workersOf};
 ghost use Rattle.log.specs.Model.{workerCount};
 ghost use Rattle.accept.specs.Refusal.{logRefusal, given};
 ghost use Rattle.causality.specs.Happened.{IsEvent};
-ghost use Rattle.causality.specs.Figure2.{lowerCut};
+ghost use Rattle.lower_cut.specs.Figure2.{lowerCut};
 ghost use Rattle.causality.specs.Refusals.{searchRefusal};
-ghost use Rattle.causality.specs.Calls.{foundCut, yesUnless};
+ghost use Rattle.lower_cut.specs.Calls.{foundCut};
 ghost use Rattle.restore.specs.Plan.{planWords};
-ghost use Rattle.restore.specs.Words.{cutsIn};
-ghost use Rattle.restore.specs.Covering.{coveringSet};
+ghost use Rattle.cost.specs.Words.{cutIn, cutsIn};
 ghost use Rattle.restore.specs.Calls.{foundPlan, planAnswer};
 
 // What the plan returns beside its words.
@@ -33,22 +29,15 @@ pub struct Totals {
     pub workers: u64,
 }
 
-// Whether the checkpoints with this identifier are a covering set; the identifier 0 means the initial states. `others` is the refusal of
-// what else the caller was lent.
-pub fn covers(log: &[u8], identifier: u32, others: u32) -> Test
-    ensures refused { λ r. ⌜ r .refusal ≡ orElse (logRefusal (now (log .entry))) others ⌝ }
-    ensures answer { λ r. ⌜ r .yes ≡ yesUnless (r .refusal) (coveringSet (workersOf (now (log .entry))) identifier) ⌝ }
+// Writes a cut into the first word of each worker.
+fn spread(cut: &[u32], words: &mut [u32])
+    requires { ⌜ length (now words) ≡ 3 * length (now cut) ⌝ }
+    ensures words { λ _. ⌜ tabulate (cutIn (now (words .exit))) (length (now (cut .entry))) ≡ now (cut .entry) ⌝ }
 {
-    let refusal = lent::or_else(accept::accept(log), others);
-    if refusal != 0 {
-        return Test {
-            refusal,
-            yes: false,
-        };
-    }
-    Test {
-        refusal: 0,
-        yes: covering::is_covering(log, identifier),
+    let mut w: usize = 0;
+    while w < cut.len() {
+        words[3 * w] = cut[w];
+        w += 1;
     }
 }
 
@@ -59,8 +48,8 @@ fn cut_words(log: &[u8], i: usize, event: u32, words: &mut [u32], scratch: &mut 
     ensures answer { λ r. ⌜ r ≡ foundCut (workersOf (now (log .entry))) i event ⌝ }
     ensures words { λ _. ⌜ cutsIn (workersOf (now (log .entry))) (now (words .exit)) ≡ lowerCut (workersOf (now (log .entry))) i event ⌝ }
 {
-    let found = causality::found_cut(log, i, event, scratch);
-    words::spread(scratch, words);
+    let found = lower_cut::found_cut(log, i, event, scratch);
+    spread(scratch, words);
     found
 }
 

@@ -1,8 +1,8 @@
 // The starts of a plan: each worker is rolled back from its latest checkpoint within the cut, until no send is lost.
 
 use crate::choice::may_choose;
-use crate::words::cut_in;
-use crate::words::start_in;
+use cost::cut_in;
+use cost::start_in;
 ghost use mathlib.Core.Path.{_≡_};
 ghost use Prim.Native.Nat.{_+_, _-_, _*_, _<_, _≤_};
 ghost use lib.ListN.{length, set};
@@ -13,7 +13,7 @@ ghost use Rattle.log.specs.Model.{workerCount, eventOf};
 ghost use Rattle.accept.specs.Refusal.{logRefusal};
 ghost use Rattle.causality.specs.Cut.{IsCut};
 ghost use Rattle.restore.specs.Plan.{planWords};
-ghost use Rattle.restore.specs.Words.{startIn, cutsIn};
+ghost use Rattle.cost.specs.Words.{startIn, cutsIn};
 ghost use Rattle.restore.specs.Inner.Rollback.{numberIn, mayStartBelow, numberBelow, placed, resent, pending, RollingBack, Looked, Settled, finished};
 
 // The number of worker w's checkpoint, which its third word holds while workers are rolled back.

@@ -1,6 +1,6 @@
 -- `plan_text::put_process` meets its contract. Assumes nothing.
 use borrow.Author.Needs.{needs}
-use Rattle.restore.specs.Words.{cutIn, startIn}
+use Rattle.cost.specs.Words.{cutIn, startIn}
 use Rattle.plan_text.specs.Text.{processLine}
 use Rattle.plan_text.proofs.put_process.Statement.{statement}
 use Rattle.plan_text.proofs.put_process.Tie as tie

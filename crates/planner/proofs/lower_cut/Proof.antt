@@ -2,7 +2,7 @@
 use mathlib.Core.Path.{refl, sym, _∙_}
 use Rattle.lent.proofs.Lent.{words-ok, put-found, untouched}
 use Rattle.causality.proofs.Allowed.{search-ok}
-use Rattle.causality.specs.Calls.{cutAnswer, cutTotals}
+use Rattle.lower_cut.specs.Calls.{cutAnswer, cutTotals}
 use borrow.Author.Needs.{needs}
 use Rattle.planner.proofs.lower_cut.Statement.{statement}
 use Rattle.planner.proofs.lower_cut.Tie as tie

@@ -1,6 +1,6 @@
 -- `planner::write_cut` meets its contract. Assumes nothing.
 use Rattle.lent.proofs.Lent.{storeEach, stored-words}
-use Rattle.causality.specs.Calls.{cutTotals}
+use Rattle.lower_cut.specs.Calls.{cutTotals}
 use borrow.Author.Needs.{needs}
 use Rattle.planner.proofs.write_cut.Statement.{statement}
 use Rattle.planner.proofs.write_cut.Tie as tie

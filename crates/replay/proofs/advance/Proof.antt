@@ -5,7 +5,7 @@ use native.Mathlib.Omega.{arith}
 use borrow.Author.Tests.{eq-eqb, ne-eqb}
 use lib.ListN.{length, getD}
 use Rattle.log.specs.Limits.{maxEvents}
-use Rattle.restore.specs.Words.{startIn}
+use Rattle.cost.specs.Words.{startIn}
 use Rattle.accept.proofs.Accepted.{well-formed}
 use Rattle.replay.specs.Machine.{movedBy, moved}
 use Rattle.replay.proofs.Steps.{done-ready}

@@ -7,9 +7,9 @@ use borrow.Author.Tests.{le-ltb, lt-ltb, le-leb, lt-leb, not-true, not-false}
 use native.Mathlib.Omega.{arith}
 use Rattle.accept.proofs.Accepted.{accepted-layout, well-formed}
 use Rattle.replay.specs.Machine.{receiveAnswer, eventAnswer, answerOf}
-use Rattle.restore.specs.Words.{cutIn, startIn, startsIn}
+use Rattle.cost.specs.Words.{cutIn, startIn, startsIn}
 use Rattle.replay.specs.Calls.{machineAnswer}
-use Rattle.restore.proofs.Held.{cuts-at, starts-in-at}
+use Rattle.cost.proofs.Held.{cuts-at, starts-in-at}
 use Rattle.causality.proofs.Peers.{peer-within}
 use borrow.Author.Needs.{needs}
 use Rattle.replay.proofs.answer.Statement.{statement}

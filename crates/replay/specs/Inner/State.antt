@@ -5,7 +5,7 @@ use Prim.Native.Nat.{ℕ, _*_, _<_, _≤_}
 use lib.ListN.{length}
 use Rattle.lent.specs.Lent.{at}
 use Rattle.log.specs.Model.{Workers, workerCount, eventCount}
-use Rattle.restore.specs.Words.{cutIn, startIn}
+use Rattle.cost.specs.Words.{cutIn, startIn}
 
 -- what a step of any worker is given when none of 14 and 16 applies
 pub record IsState (log : Workers) (words positions : List ℕ) : Type 0 where

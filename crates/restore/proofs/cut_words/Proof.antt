@@ -1,6 +1,6 @@
 -- `restore::cut_words` meets its contract. Assumes nothing.
 use mathlib.Core.Path.{_∙_}
-use Rattle.restore.specs.Words.{cutsIn}
+use Rattle.cost.specs.Words.{cutsIn}
 use borrow.Author.Needs.{needs}
 use Rattle.restore.proofs.cut_words.Statement.{statement}
 use Rattle.restore.proofs.cut_words.Tie as tie

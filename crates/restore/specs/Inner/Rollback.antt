@@ -14,7 +14,7 @@ use Rattle.log.specs.Model.{Workers, workerCount, eventOf, checkpointOf, isUnlo
 use Rattle.lent.specs.Lent.{at}
 use Rattle.restore.specs.Choice.{mayChoose, IsChoice, startsOf, Startable}
 use Rattle.restore.specs.Plan.{identifierOf, identifierAt, planStarts}
-use Rattle.restore.specs.Words.{cutIn, startIn, startsIn}
+use Rattle.cost.specs.Words.{cutIn, startIn, startsIn}
 
 -- the third word of worker w
 unfoldable pub numberIn : List ℕ → ℕ → ℕ

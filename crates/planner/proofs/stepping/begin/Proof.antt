@@ -9,7 +9,7 @@ use Rattle.ranges.specs.Fold.{tabulate}
 use Rattle.ranges.proofs.Tabulate.{store-more, full-table}
 use native.Mathlib.Nat.{le-antisymm}
 use borrow.Author.Needs.{scaled-fits}
-use Rattle.restore.specs.Words.{startIn}
+use Rattle.cost.specs.Words.{startIn}
 use Rattle.planner.proofs.stepping.begin.Statement.{statement}
 use Rattle.planner.proofs.stepping.begin.Tie as tie
 

@@ -1,6 +1,6 @@
 -- `planner::stepping::replay_words` meets its contract. Assumes nothing.
 use mathlib.Core.Path.{_∙_}
-use Rattle.restore.specs.Words.{startsIn}
+use Rattle.cost.specs.Words.{startsIn}
 use borrow.Author.Needs.{needs}
 use Rattle.planner.proofs.stepping.replay_words.Statement.{statement}
 use Rattle.planner.proofs.stepping.replay_words.Tie as tie

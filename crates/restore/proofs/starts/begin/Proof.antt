@@ -8,7 +8,7 @@ use Rattle.log.specs.Layout.{workersOf}
 use Rattle.log.specs.Model.{workerCount}
 use Rattle.accept.proofs.Accepted.{accepted-layout, well-formed}
 use Rattle.restore.proofs.Begun.{Begun, begun-none, begun-more, begun-all}
-use Rattle.restore.proofs.Held.{cuts-at}
+use Rattle.cost.proofs.Held.{cuts-at}
 use Rattle.restore.proofs.starts.begin.Statement.{statement}
 use Rattle.restore.proofs.starts.begin.Tie as tie
 

@@ -7,7 +7,7 @@ use Rattle.log.specs.Layout.{workersOf}
 use Rattle.accept.proofs.Accepted.{well-formed}
 use Rattle.lent.specs.Lent.{at}
 use Rattle.restore.specs.Inner.Rollback.{Looked}
-use Rattle.restore.specs.Words.{cutsIn}
+use Rattle.cost.specs.Words.{cutsIn}
 use Rattle.restore.proofs.Settling.{looked-none, looked-falls, looked-more}
 use Rattle.restore.proofs.starts.look_worker.Statement.{statement}
 use Rattle.restore.proofs.starts.look_worker.Tie as tie

@@ -7,7 +7,7 @@ use Rattle.log.specs.Model.{workerCount}
 use Rattle.accept.proofs.Accepted.{accepted-layout, well-formed}
 use Rattle.lent.specs.Lent.{at}
 use Rattle.restore.specs.Inner.Rollback.{pending, RollingBack}
-use Rattle.restore.specs.Words.{cutsIn}
+use Rattle.cost.specs.Words.{cutsIn}
 use Rattle.restore.proofs.Settling.{rolling-cut, looked-less, first-pending, settled}
 use Rattle.restore.proofs.starts.settle.Statement.{statement}
 use Rattle.restore.proofs.starts.settle.Tie as tie

@@ -1,0 +1,116 @@
+-- Plan words that are held over an accepted log: each worker's words, and its replayed events and units as a loop adds them up.
+-- Assumes nothing.
+use mathlib.Core.Path.{_≡_, refl, sym}
+use mathlib.Core.Bool.{Bool, true, false, cond, _||_}
+use mathlib.Core.Logic.{⊎-elim}
+use mathlib.Core.List.{List}
+use Prim.Native.Nat.{ℕ, _+_, _-_, _*_, _^_, _<_, _≤_}
+use native.Mathlib.Omega.{arith}
+use borrow.Author.Tests.{le-leb, lt-leb, eqb-true}
+use lib.Dec.{leb, eqb}
+use lib.ListN.{length}
+use Rattle.ranges.specs.Fold.{sumBelow}
+use Rattle.ranges.proofs.Sum.{sum-more, sum-bound, sum-grows}
+use Rattle.ranges.proofs.Tabulate.{getD-tabulate, tabulate-list}
+use Rattle.log.specs.Limits.{maxEvents}
+use Rattle.log.specs.Model.{Workers, workerCount, eventCount, roleOf, eventOf, isSend, isUnlogged, isLogged, isReceive}
+use Rattle.log.specs.Layout.{workersOf}
+use Rattle.accept.specs.Refusal.{logRefusal}
+use Rattle.accept.specs.WellFormed.{WellFormed}
+use Rattle.accept.proofs.Accepted.{well-formed}
+use Rattle.lent.specs.Lent.{at}
+use Rattle.cost.specs.Words.{cutIn, startIn, cutsIn, startsIn}
+use Rattle.cost.specs.Cost.{replayed, eventsOf, eventUnits, workerUnits, unitsOf, builtIn}
+use Rattle.cost.specs.Inner.Held.{IsHeld}
+use Rattle.cost.proofs.Costs.{table-bound, events-fit, built-in-fits}
+
+module _ (log : Workers) (words : List ℕ) (w : ℕ) (h : w < workerCount log) where
+  -- the words of a worker give it its cut ..
+  pub cuts-at : at (cutsIn log words) w ≡ cutIn words w
+  unfolding cutsIn
+  cuts-at = getD-tabulate (cutIn words) (workerCount log) w 0 h
+
+  -- .. and its start
+  pub starts-in-at : at (startsIn log words) w ≡ startIn words w
+  unfolding startsIn
+  starts-in-at = getD-tabulate (startIn words) (workerCount log) w 0 h
+
+-- words whose first word of each worker is the cut's give the cut
+pub cuts-are : (log : Workers) (words cut : List ℕ) → length cut ≡ workerCount log → ((w : ℕ) → w < workerCount log → cutIn words w ≡ at cut w) → cutsIn log words ≡ cut
+unfolding cutsIn
+cuts-are log words cut long same = sym (tabulate-list (cutIn words) (workerCount log) 0 cut long (λ w h. sym (same w h)))
+
+-- the same of the starts
+pub starts-are : (log : Workers) (words starts : List ℕ) → length starts ≡ workerCount log → ((w : ℕ) → w < workerCount log → startIn words w ≡ at starts w)
+    → startsIn log words ≡ starts
+unfolding startsIn
+starts-are log words starts long same = sym (tabulate-list (startIn words) (workerCount log) 0 starts long (λ w h. sym (same w h)))
+
+module _ (log : Workers) (starts : List ℕ) (w : ℕ) where
+  -- events up to the start add nothing
+  pub units-none : sumBelow (eventUnits builtIn log starts w) (at starts w) ≡ 0
+  unfolding eventUnits
+  units-none =
+      let all = sum-bound (eventUnits builtIn log starts w) (at starts w) 0 (λ k h. rw (lt-leb (at starts w) k h) (omega arith)) in
+      omega arith
+
+  -- an event after the start adds its units
+  pub units-more : (k : ℕ) → at starts w ≤ k → sumBelow (eventUnits builtIn log starts w) (k + 1) ≡ sumBelow (eventUnits builtIn log starts w) k + builtIn (roleOf log w) (eventOf log w (k + 1) .kind)
+  unfolding eventUnits
+  units-more k h = rw (sum-more (eventUnits builtIn log starts w) k, le-leb (at starts w) k h)
+
+  -- at most 9 for each
+  pub units-most : (k : ℕ) → sumBelow (eventUnits builtIn log starts w) k ≤ k * 9
+  unfolding eventUnits
+  units-most k = sum-bound (eventUnits builtIn log starts w) k 9 (λ j h. each j (leb (at starts w) j))
+    where
+      each : (j : ℕ) (t : Bool) → cond t (builtIn (roleOf log w) (eventOf log w (j + 1) .kind)) 0 ≤ 9
+      each j true = table-bound (roleOf log w) (eventOf log w (j + 1) .kind)
+      each j false = omega arith
+
+-- an event's kind is 1, 2 or 3
+pub kind-some : (log : Workers) → WellFormed log → (w x : ℕ) → 0 < x → x ≤ eventCount log w → (0 < eventOf log w x .kind) × (eventOf log w x .kind < 4)
+unfolding isSend isReceive isUnlogged isLogged
+kind-some log ok w x some here = ⊎-elim (λ q. let l = eqb-true (eventOf log w x .kind) 1 q in (omega arith, omega arith)) receive (ok .kinds w x some here)
+  where
+    receive : (eqb (eventOf log w x .kind) 2 || eqb (eventOf log w x .kind) 3) ≡ true → (0 < eventOf log w x .kind) × (eventOf log w x .kind < 4)
+    receive q = go (eqb (eventOf log w x .kind) 2) refl q
+      where
+        go : (b : Bool) → eqb (eventOf log w x .kind) 2 ≡ b → (b || eqb (eventOf log w x .kind) 3) ≡ true → (0 < eventOf log w x .kind) × (eventOf log w x .kind < 4)
+        go true p r = let l = eqb-true (eventOf log w x .kind) 2 p in (omega arith, omega arith)
+        go false p r = let l = eqb-true (eventOf log w x .kind) 3 r in (omega arith, omega arith)
+
+-- what held words give worker w, and the sums of the workers up to it
+pub record HeldWorker (log : Workers) (words : List ℕ) (w : ℕ) : Type 0 where
+  pub wide : 3 * w + 3 ≤ length words
+  -- its start is at most its cut, which is at most its event count
+  pub start : startIn words w ≤ cutIn words w
+  pub cut : cutIn words w ≤ eventCount log w
+  pub most : cutIn words w ≤ maxEvents
+  -- one worker more
+  pub events : sumBelow (replayed (cutsIn log words) (startsIn log words)) (w + 1)
+      ≡ sumBelow (replayed (cutsIn log words) (startsIn log words)) w + (cutIn words w - startIn words w)
+  pub events-fit : sumBelow (replayed (cutsIn log words) (startsIn log words)) (w + 1) < 2 ^ 64
+  pub units-fit : sumBelow (workerUnits builtIn log (cutsIn log words) (startsIn log words)) w
+      + workerUnits builtIn log (cutsIn log words) (startsIn log words) w < 2 ^ 64
+
+pub held-worker : (s words : List ℕ) → (logRefusal s ≡ 0) × IsHeld (workersOf s) words → (w : ℕ) → w < workerCount (workersOf s) → HeldWorker (workersOf s) words w
+unfolding replayed eventsOf unitsOf
+held-worker s words (accepted, held) w h =
+    let log = workersOf s in
+    let ok = well-formed s accepted in
+    let cut = cutsIn log words in
+    let starts = startsIn log words in
+    let mine = cuts-at log words w h in
+    let within = held .isCut .within w in
+    let units = workerUnits builtIn log cut starts in
+    let next : w + 1 ≤ workerCount log = omega arith in
+    record {
+      wide = omega (arith, held .long);
+      start = omega (arith, held .within w, starts-in-at log words w h);
+      cut = omega arith;
+      most = omega (arith, ok .events w);
+      events = rw (sum-more (replayed cut starts) w, mine, starts-in-at log words w h);
+      events-fit = omega (arith, sum-grows (replayed cut starts) (w + 1) (workerCount log) next, events-fit log ok cut (held .isCut) starts);
+      units-fit = omega (arith, sum-more units w, sum-grows units (w + 1) (workerCount log) next, built-in-fits log ok cut (held .isCut) starts);
+    }

@@ -1,0 +1,69 @@
+-- `cost::units_of` meets its contract. Assumes nothing.
+use mathlib.Core.Path.{_≡_, sym}
+use Prim.Native.Nat.{_-_, _<_, _≤_}
+use native.Mathlib.Omega.{arith}
+use native.Mathlib.Nat.{le-antisymm}
+use Rattle.ranges.specs.Fold.{sumBelow}
+use Rattle.ranges.proofs.Sum.{sum-none, sum-more}
+use Rattle.log.specs.Layout.{workersOf}
+use Rattle.log.specs.Model.{workerCount}
+use Rattle.accept.proofs.Accepted.{accepted-layout}
+use Rattle.cost.specs.Words.{cutsIn, startsIn}
+use Rattle.cost.specs.Cost.{workerUnits, unitsOf, builtIn}
+use Rattle.cost.proofs.Held.{held-worker}
+use Rattle.cost.proofs.units_of.Statement.{statement}
+use Rattle.cost.proofs.units_of.Tie as tie
+
+abbrev Inv-loop : tie.InvT-loop
+Inv-loop log words n units₀ w₀ units w =
+    (w ≤ n) × (units ≡ sumBelow (workerUnits builtIn (workersOf log) (cutsIn (workersOf log) words) (startsIn (workersOf log) words)) w)
+
+abbrev μ-loop : tie.MeasureT-loop
+μ-loop log words n units₀ w₀ units w = n - w
+
+worker-count-requires : tie.Need-worker-count-requires Inv-loop μ-loop
+worker-count-requires c κs = accepted-layout _ (c .before .before .pre .0)
+
+loop-holds : tie.Need-loop-holds Inv-loop μ-loop
+loop-holds c = (omega arith, sym (sum-none _))
+
+-- the worker of this turn is one of the log's
+here : (c : tie.In-loop Inv-loop μ-loop) → c .before .loop .w < workerCount (workersOf (c .before .before .before .before .before .args .log .now))
+here c = rw (c .before .before .worker-count .ensures .0) at (c .loop-test .taken)
+
+worker-units-requires : tie.Need-worker-units-requires Inv-loop μ-loop
+worker-units-requires c κs = (c .before .before .before .before .before .pre, here c)
+
+add-units : tie.Need-add-units Inv-loop μ-loop
+add-units c =
+    let turn = c .before in
+    let loop = turn .before .loop in
+    record { fits = rw (loop .inv .1, c .worker-units .ensures) (held-worker _ _ (turn .before .before .before .before .before .pre) (loop .w) (here turn) .units-fit) }
+
+add-w : tie.Need-add-w Inv-loop μ-loop
+add-w c = omega arith
+
+loop-less : tie.Need-loop-less Inv-loop μ-loop
+loop-less c = omega arith
+
+loop-again : tie.Need-loop-again Inv-loop μ-loop
+loop-again c = (omega arith, rw (sum-more _ (c .before .before .loop .w), c .before .before .loop .inv .1, c .worker-units .ensures))
+
+returns : tie.Need-returns Inv-loop μ-loop
+unfolding unitsOf
+returns c = rw (le-antisymm (c .before .loop .inv .0) (c .loop-test .left), c .before .before .worker-count .ensures .0) at (c .before .loop .inv .1)
+
+pub units-of-spec : {M : Type 1} → statement M
+units-of-spec =
+    tie.close
+    (tie.spec
+    Inv-loop
+    μ-loop
+    worker-count-requires
+    loop-holds
+    worker-units-requires
+    add-units
+    add-w
+    loop-less
+    loop-again
+    returns)

@@ -1,0 +1,2 @@
+pub mod CoveringSet
+pub mod SetNumber

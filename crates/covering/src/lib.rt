@@ -1,0 +1,173 @@
+// The test whether the checkpoints with an identifier are a covering set.
+
+use causality::Test;
+use restore::choice::may_choose;
+ghost use mathlib.Core.Path.{_≡_};
+ghost use mathlib.Core.List.{_++_};
+ghost use Prim.Native.Nat.{_<_, _≤_};
+ghost use lib.ListN.{length, drop};
+ghost use Rattle.ranges.specs.Fold.{anyBelow, tabulate};
+ghost use Rattle.lent.specs.Lent.{orElse};
+ghost use Rattle.log.specs.Layout.{workersOf};
+ghost use Rattle.log.specs.Model.{workerCount, eventCount};
+ghost use Rattle.accept.specs.Refusal.{logRefusal};
+ghost use Rattle.causality.specs.Calls.{yesUnless};
+ghost use Rattle.covering.specs.Covering.{isSet, withoutSet, setIndex, coveringSet};
+ghost use Rattle.covering.specs.Inner.Looked.{firstSet, uncoveredIn, workerUncoveredIn};
+
+// Whether checkpoint c of worker w may be chosen and has this identifier.
+fn is_set(log: &[u8], identifier: u32, w: usize, c: u32) -> bool
+    requires { ⌜ logRefusal (now log) ≡ 0 ⌝ }
+    ensures answer { λ r. ⌜ r ≡ isSet (workersOf (now (log .entry))) identifier w c ⌝ }
+{
+    if !may_choose(log, w, c) {
+        return false;
+    }
+    let point = log::checkpoint_at(log, w, c);
+    point.identifier == identifier
+}
+
+// The number of worker w's checkpoint with this identifier, and the number after the last where there is none.
+fn set_number(log: &[u8], identifier: u32, w: usize) -> u32
+    requires { ⌜ logRefusal (now log) ≡ 0 ⌝ }
+    ensures answer { λ r. ⌜ r ≡ firstSet (workersOf (now (log .entry))) identifier w ⌝ }
+{
+    let last = log::checkpoint_count(log, w);
+    let mut c: u32 = 0;
+    while c <= last {
+        if is_set(log, identifier, w, c) {
+            return c;
+        }
+        c += 1;
+    }
+    c
+}
+
+// Whether worker w has no checkpoint with this identifier.
+fn is_without_set(log: &[u8], identifier: u32, w: usize) -> bool
+    requires { ⌜ logRefusal (now log) ≡ 0 ⌝ }
+    ensures answer { λ r. ⌜ r ≡ withoutSet (workersOf (now (log .entry))) identifier w ⌝ }
+{
+    log::checkpoint_count(log, w) < set_number(log, identifier, w)
+}
+
+// The index of worker w's checkpoint with this identifier, and 0 where there is none.
+fn set_index(log: &[u8], identifier: u32, w: usize) -> u32
+    requires { ⌜ logRefusal (now log) ≡ 0 ⌝ }
+    ensures answer { λ r. ⌜ r ≡ setIndex (workersOf (now (log .entry))) identifier w ⌝ }
+{
+    let point = log::checkpoint_at(log, w, set_number(log, identifier, w));
+    point.index
+}
+
+// Whether some worker has no checkpoint with this identifier.
+fn some_without_set(log: &[u8], identifier: u32) -> bool
+    requires { ⌜ logRefusal (now log) ≡ 0 ⌝ }
+    ensures answer { λ r. ⌜ r ≡ anyBelow (withoutSet (workersOf (now (log .entry))) identifier) (workerCount (workersOf (now (log .entry)))) ⌝ }
+{
+    let n = log::worker_count(log);
+    let mut w: usize = 0;
+    while w < n {
+        if is_without_set(log, identifier, w) {
+            return true;
+        }
+        w += 1;
+    }
+    false
+}
+
+// The index of each worker's checkpoint with this identifier, one word for each worker.
+fn set_indices(log: &[u8], identifier: u32, indices: &mut [u32])
+    requires { ⌜ (logRefusal (now log) ≡ 0) × (workerCount (workersOf (now log)) ≤ length (now indices)) ⌝ }
+    ensures indices { λ _. ⌜ now (indices .exit)
+        ≡ tabulate (setIndex (workersOf (now (log .entry))) identifier) (workerCount (workersOf (now (log .entry))))
+        ++ drop (workerCount (workersOf (now (log .entry)))) (now (indices .entry)) ⌝ }
+{
+    let n = log::worker_count(log);
+    let mut w: usize = 0;
+    while w < n {
+        indices[w] = set_index(log, identifier, w);
+        w += 1;
+    }
+}
+
+// Whether event k + 1 of worker w is a receive without its data after its worker's index, of a send below the sender's index.
+fn is_uncovered(log: &[u8], indices: &[u32], w: usize, k: u32) -> bool
+    requires { ⌜ (logRefusal (now log) ≡ 0) × (workerCount (workersOf (now log)) ≤ length (now indices))
+        × (k < eventCount (workersOf (now log)) w) ⌝ }
+    ensures answer { λ r. ⌜ r ≡ uncoveredIn (workersOf (now (log .entry))) (now (indices .entry)) w k ⌝ }
+{
+    if k < indices[w] {
+        return false;
+    }
+    let e = log::event_at(log, w, k + 1);
+    if !log::is_unlogged(e) {
+        return false;
+    }
+    e.send < indices[e.peer as usize]
+}
+
+// Whether worker w has such an event.
+fn worker_uncovered(log: &[u8], indices: &[u32], w: usize) -> bool
+    requires { ⌜ (logRefusal (now log) ≡ 0) × (workerCount (workersOf (now log)) ≤ length (now indices)) ⌝ }
+    ensures answer { λ r. ⌜ r ≡ workerUncoveredIn (workersOf (now (log .entry))) (now (indices .entry)) w ⌝ }
+{
+    let count = log::event_count(log, w);
+    let mut k: u32 = 0;
+    while k < count {
+        if is_uncovered(log, indices, w, k) {
+            return true;
+        }
+        k += 1;
+    }
+    false
+}
+
+// Whether some worker has such an event.
+fn some_uncovered(log: &[u8], indices: &[u32]) -> bool
+    requires { ⌜ (logRefusal (now log) ≡ 0) × (workerCount (workersOf (now log)) ≤ length (now indices)) ⌝ }
+    ensures answer { λ r. ⌜ r
+        ≡ anyBelow (workerUncoveredIn (workersOf (now (log .entry))) (now (indices .entry))) (workerCount (workersOf (now (log .entry)))) ⌝ }
+{
+    let n = log::worker_count(log);
+    let mut w: usize = 0;
+    while w < n {
+        if worker_uncovered(log, indices, w) {
+            return true;
+        }
+        w += 1;
+    }
+    false
+}
+
+// Whether the checkpoints with this identifier are a covering set.
+fn is_covering(log: &[u8], identifier: u32) -> bool
+    requires { ⌜ logRefusal (now log) ≡ 0 ⌝ }
+    ensures answer { λ r. ⌜ r ≡ coveringSet (workersOf (now (log .entry))) identifier ⌝ }
+{
+    if some_without_set(log, identifier) {
+        return false;
+    }
+    let mut indices: [u32; log::MAX_WORKERS] = [0; log::MAX_WORKERS];
+    set_indices(log, identifier, &mut indices);
+    !some_uncovered(log, &indices)
+}
+
+// Whether the checkpoints with this identifier are a covering set; the identifier 0 means the initial states. `others` is the refusal of
+// what else the caller was lent.
+pub fn covers(log: &[u8], identifier: u32, others: u32) -> Test
+    ensures refused { λ r. ⌜ r .refusal ≡ orElse (logRefusal (now (log .entry))) others ⌝ }
+    ensures answer { λ r. ⌜ r .yes ≡ yesUnless (r .refusal) (coveringSet (workersOf (now (log .entry))) identifier) ⌝ }
+{
+    let refusal = lent::or_else(accept::accept(log), others);
+    if refusal != 0 {
+        return Test {
+            refusal,
+            yes: false,
+        };
+    }
+    Test {
+        refusal: 0,
+        yes: is_covering(log, identifier),
+    }
+}

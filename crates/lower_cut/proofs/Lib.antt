@@ -1,0 +1,5 @@
+pub mod Recursion
+pub mod LowerCut
+pub mod VisitCount
+pub mod WorkersWord
+pub mod Turns

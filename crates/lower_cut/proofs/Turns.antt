@@ -1,0 +1,235 @@
+-- A visit by one pass over the events that are not covered yet: its row gives each turn of Figure 2.
+-- Assumes nothing.
+use mathlib.Core.Path.{_≡_, refl, sym, _∙_, ap}
+use mathlib.Core.Logic.{_⊎_, ⊎-elim, _≢_}
+use mathlib.Core.List.{List}
+use Prim.Native.Nat.{ℕ, _+_, _<_, _≤_}
+use native.Mathlib.Omega.{arith}
+use borrow.Author.Tests.{le-leb, lt-leb}
+use lib.ListN.{length, set, replicate, length-set}
+use lib.Seq.{getD-set-same, getD-set-other}
+use Rattle.ranges.specs.Fold.{maxBelow, sweep}
+use Rattle.ranges.proofs.Max.{max-none, max-least}
+use Rattle.ranges.proofs.Order.{lt-or-le, eq-or-ne}
+use Rattle.ranges.proofs.Store.{set-cases, set-grows}
+use Rattle.ranges.proofs.Sweep.{sweep-more}
+use Rattle.log.specs.Model.{Workers, workerCount, eventCount, eventOf}
+use Rattle.log.proofs.Read.{worker-within}
+use Rattle.accept.specs.WellFormed.{WellFormed}
+use Rattle.causality.specs.Happened.{IsEvent}
+use Rattle.lent.specs.Lent.{at}
+use Rattle.causality.specs.Cut.{namedOf, component, IsCut}
+use Rattle.lower_cut.specs.Figure2.{Found, counted, stored, turn, visitAt, beginning, figure2}
+use Rattle.causality.specs.Inner.Row.{namedAfter, largestAfter}
+use Rattle.lower_cut.specs.Inner.Visiting.{wordSum, Visiting}
+use Rattle.accept.proofs.Stamps.{stamps-rise}
+use Rattle.causality.proofs.Order.{Rising, index-less, happened-rises}
+use Rattle.causality.proofs.Components.{component-own, component-other, named-from, component-rises}
+use Rattle.lower_cut.proofs.Recursion.{Ready, grown-ready, AboveCut, turn-cases, visit-equation}
+use Rattle.lower_cut.proofs.LowerCut.{Visited, turns-visited, visitAt-visited, visited-cut, beginning-words, beginning-cut}
+use Rattle.lower_cut.proofs.VisitCount.{words-raise, turns-visits}
+use Rattle.causality.proofs.Row.{after-within, component-split}
+
+-- the state of a visit to event e of worker i after the turns of v workers
+abbrev pub turns : Workers → ℕ → ℕ → ℕ → Found → Found
+turns log i e v s = sweep (turn (visitAt log) log i e) v (counted s)
+
+-- what the loop of a visit keeps: t is the state after the turns of v of the n workers, and the row has what the events after the first
+-- `from` name of each worker
+pub record Turning (log : Workers) (i from e : ℕ) (cut : List ℕ) (visits n : ℕ) (row : List ℕ) (t : Found) (v : ℕ) : Type 0 where
+  pub ok : WellFormed log
+  pub pre : Visiting log i from e cut visits
+  pub size : n ≡ workerCount log
+  pub few : v ≤ n
+  pub now : t ≡ turns log i e v (record { cut = cut; visits = visits })
+  pub named : (u : ℕ) → u < n → at row u ≡ largestAfter log i from e u
+
+module _ {log : Workers} {i from e : ℕ} {cut : List ℕ} {visits n : ℕ} {row : List ℕ} {t : Found} {v : ℕ} (s : Turning log i from e cut visits n row t v) where
+  abbrev start : Found
+  start = record { cut = cut; visits = visits }
+
+  -- what the row has of worker v
+  abbrev d : ℕ
+  d = at row v
+
+  begin : Ready log i e cut
+  begin = record { long = s .pre .isCut .long; holds = omega (arith, s .pre .own) }
+
+  -- no event of a worker names an event of that worker
+  own-none : largestAfter log i from e i ≡ 0
+  unfolding largestAfter namedAfter
+  own-none =
+      let none : maxBelow (namedAfter log i from i) e ≤ 0 =
+      max-least (namedAfter log i from i) e 0
+      (λ k h.
+      let zero′ : namedOf log i i k ≤ 0 =
+      ⊎-elim (λ some. let by = named-from log i e i k h some in absurd (s .ok .sent i (k + 1) (by .receive) .other (by .peer))) (λ z. z)
+      (lt-or-le 0 (namedOf log i i k)) in
+      ⊎-elim (λ l. rw (lt-leb from k l) (omega arith)) (λ l. rw (le-leb from k l) (omega arith)) (lt-or-le k from)) in
+      omega arith
+
+  visited : Visited log i e v cut (t .cut)
+  visited =
+      rw (s .now)
+      (turns-visited log (s .ok) (visitAt log) i e v (counted start) (omega (arith, s .size)) (s .pre .event) begin
+      (λ w c u rising r. visitAt-visited log (s .ok) w c u (rising .first) r))
+
+  ready : Ready log i e (t .cut)
+  ready = grown-ready begin (visited .grown)
+
+  own : at (t .cut) i ≡ e
+  own =
+      ⊎-elim (λ q. q ∙ s .pre .own)
+      (λ here.
+      let rising = happened-rises log (s .ok) (here .happened) in
+      let less = index-less log (s .ok) i (at (t .cut) i) e (rising .first .1) (rising .stamps) in
+      let no : ⊥ = omega (arith, visited .grown .grows i, s .pre .own) in absurd no)
+      (visited .words i)
+
+  settled : (u : ℕ) → u ≢ i → eventOf log u (at (t .cut) u) .stamp < eventOf log i e .stamp
+      → (x : ℕ) → x < workerCount log → component log u (at (t .cut) u) x ≤ at (t .cut) x
+  settled u other less x h =
+      ⊎-elim
+      (λ q.
+      let earlier : eventOf log u (at cut u) .stamp < eventOf log i e .stamp = rw q at less in
+      rw q (omega (arith, s .pre .settled u other earlier x h, visited .grown .grows x)))
+      (λ here. here .covered x h)
+      (visited .words u)
+
+  -- the cut has as many words as it had
+  pub turning-long : length (t .cut) ≡ length cut
+  turning-long = visited .grown .long
+
+  -- all turns are made: the visit is done
+  pub ended : n ≤ v → t ≡ visitAt log i e start
+  ended all =
+      let last : v ≡ workerCount log = omega (arith, s .size) in
+      s .now ∙ rw last (sym (visit-equation log (s .ok) i e start (s .pre .event) begin))
+
+  -- worker v's turn
+  module _ (h : v < n) where
+    inside : v < workerCount log
+    inside = omega (arith, s .size)
+
+    pub turning-room : v < length (t .cut)
+    turning-room = rw (ready .long) inside
+
+    before : v ≢ i → component log i from v ≤ at (t .cut) v
+    before other = omega (arith, s .pre .before v inside other, visited .grown .grows v)
+
+    after : turns log i e (v + 1) start ≡ turn (visitAt log) log i e v t
+    after = sweep-more (turn (visitAt log) log i e) v (counted start) ∙ ap (turn (visitAt log) log i e v) (sym (s .now))
+
+    on : {t′ : Found} → t′ ≡ turns log i e (v + 1) start → Turning log i from e cut visits n row t′ (v + 1)
+    on q = record { ok = s .ok; pre = s .pre; size = s .size; few = omega arith; now = q; named = s .named }
+
+    covered : d ≤ at (t .cut) v → component log i e v ≤ at (t .cut) v
+    covered l =
+        ⊎-elim
+        (λ q.
+        let c : component log i e v ≡ component log i e i = ap (component log i e) q in
+        let a : at (t .cut) v ≡ at (t .cut) i = ap (at (t .cut)) q in
+        omega (arith, component-own log i e, own))
+        (λ other. component-split log i from e v other (at (t .cut) v) (before other) (rw (s .named v h) at l))
+        (eq-or-ne v i)
+
+    -- nothing above the cut is named of it: nothing is done
+    pub idle : d ≤ at (t .cut) v → Turning log i from e cut visits n row t (v + 1)
+    idle l =
+        on
+        (⊎-elim (λ c. sym (after ∙ c .1 (visitAt log))) (λ c. let no : ⊥ = omega (arith, covered l, c .0 .above) in absurd no)
+        (turn-cases log (s .ok) i e v t (s .pre .event) ready))
+
+    -- an event above the cut is
+    module _ (above : at (t .cut) v < d) where
+      another : v ≢ i
+      another q =
+          let same : largestAfter log i from e v ≡ largestAfter log i from e i = ap (largestAfter log i from e) q in
+          omega (arith, own-none, s .named v h)
+
+      found : component log i e v ≡ d
+      found =
+          let under = after-within log i from e v another in
+          let over = component-split log i from e v another d (omega (arith, before another)) (omega (arith, s .named v h)) in
+          omega (arith, s .named v h)
+
+      rising : Rising log v d i e
+      rising = rw found at (component-rises log (s .ok) i e v (s .pre .event .1) another (omega (arith, found)))
+
+      -- it is visited
+      raised : AboveCut log i e v (t .cut) × (turn (visitAt log) log i e v t ≡ visitAt log v (component log i e v) (stored t v (component log i e v)))
+      raised =
+          ⊎-elim (λ c. let no : ⊥ = omega (arith, found, c .0) in absurd no) (λ c. (c .0, c .1 (visitAt log)))
+          (turn-cases log (s .ok) i e v t (s .pre .event) ready)
+
+      pub turned : {t′ : Found} → t′ ≡ visitAt log v d (stored t v d) → Turning log i from e cut visits n row t′ (v + 1)
+      turned q = on (q ∙ sym (after ∙ rw found at (raised .1)))
+
+      pub falls : eventOf log v d .stamp < eventOf log i e .stamp
+      falls = rising .stamps
+
+      pub next : Visiting log v (at (t .cut) v) d (set (t .cut) v d) (t .visits)
+      next =
+          record {
+            event = rising .first;
+            isCut = record { long = length-set (t .cut) v d ∙ ready .long; within = within };
+            own = getD-set-same (t .cut) v d 0 turning-room;
+            before = λ u l other. omega (arith, settled v another early u l, set-grows (t .cut) v d (omega arith) u);
+            settled = later;
+            few = few-visits;
+          }
+        where
+          isCut : IsCut log (t .cut)
+          isCut = visited-cut log (s .ok) i e v cut (t .cut) (s .pre .isCut) visited
+
+          within : (u : ℕ) → at (set (t .cut) v (at row v)) u ≤ eventCount log u
+          within u = ⊎-elim (λ c. rw (c .1, c .0) (rising .first .1)) (λ c. omega (arith, c .1, isCut .within u)) (set-cases (t .cut) v d 0 u turning-room)
+
+          early : eventOf log v (at (t .cut) v) .stamp < eventOf log i e .stamp
+          early = let less = stamps-rise log (s .ok) v (at (t .cut) v) d above (rising .first .1) in omega (arith, rising .stamps)
+
+          later : (u : ℕ) → u ≢ v → eventOf log u (at (set (t .cut) v (at row v)) u) .stamp < eventOf log v (at row v) .stamp
+              → (x : ℕ) → x < workerCount log → component log u (at (set (t .cut) v (at row v)) u) x ≤ at (set (t .cut) v (at row v)) x
+          later u other less x l =
+              let same = getD-set-other (t .cut) v u d 0 other in
+              let earlier : eventOf log u (at (t .cut) u) .stamp < eventOf log v d .stamp = rw same at less in
+              let not-own : u ≢ i =
+              λ q. let e′ : eventOf log u (at (t .cut) u) .stamp ≡ eventOf log i e .stamp = rw (q, own) in omega (arith, rising .stamps) in
+              rw same (omega (arith, settled u not-own (omega (arith, rising .stamps)) x l, set-grows (t .cut) v d (omega arith) x))
+
+          few-visits : t .visits ≤ wordSum log (set (t .cut) v (at row v))
+          few-visits =
+              let sum = rw (← s .now) at (turns-visits log (s .ok) i e v start (omega (arith, s .size)) (s .pre .event) begin) in
+              let more = rw found at (words-raise log i e v (t .cut) (s .pre .event) ready inside tt (raised .0) .0) in
+              omega (arith, s .pre .few)
+
+-- the words that the search begins with may be visited
+begins : (log : Workers) (i e : ℕ) → IsEvent log i e → Visiting log i 0 e (beginning log i e .cut) 0
+begins log i e event =
+    record {
+      event = event;
+      isCut = beginning-cut log i e event;
+      own = ⊎-elim (λ c. c .1) (λ c. absurd (c .0 refl)) (words i);
+      before = λ u h other. let none = nothing i u other in omega arith;
+      settled = λ u other less x h. ⊎-elim (λ c. absurd (other (c .0))) (λ c. rw (c .1) (let none = upTo u x in omega arith)) (words u);
+      few = omega arith;
+    }
+  where
+    words : (w : ℕ) → ((w ≡ i) × (at (beginning log i e .cut) w ≡ e)) ⊎ ((w ≢ i) × (at (beginning log i e .cut) w ≡ 0))
+    words = beginning-words log i e (worker-within log i 0 (omega arith))
+
+    nothing : (w u : ℕ) → u ≢ w → component log w 0 u ≡ 0
+    nothing w u other = component-other log w 0 u other ∙ max-none (namedOf log w u)
+
+    upTo : (w u : ℕ) → component log w 0 u ≡ 0
+    upTo w u = ⊎-elim (λ q. rw q (component-own log w 0)) (nothing w u) (eq-or-ne u w)
+
+-- .. they are zeros, with the event at its worker ..
+pub begun : (log : Workers) (i e : ℕ) (zeros : List ℕ) → zeros ≡ replicate (workerCount log) 0 → IsEvent log i e → Visiting log i 0 e (set zeros i e) 0
+unfolding beginning
+begun log i e zeros q event = rw q (begins log i e event)
+
+-- .. and the visit from them is the figure
+pub figured : (log : Workers) (i e : ℕ) (zeros : List ℕ) (t : Found) → zeros ≡ replicate (workerCount log) 0 → t ≡ visitAt log i e (record { cut = set zeros i e; visits = 0 }) → t ≡ figure2 log i e
+unfolding beginning figure2
+figured log i e zeros t q now = now ∙ rw q

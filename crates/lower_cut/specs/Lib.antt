@@ -1,0 +1,4 @@
+pub mod Figure2
+pub mod Workers
+pub mod Calls
+pub mod Inner

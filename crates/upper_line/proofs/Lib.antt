@@ -1,0 +1,3 @@
+pub mod UpperLine
+pub mod Blocked
+pub mod Raising

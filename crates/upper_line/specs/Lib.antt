@@ -1,0 +1,2 @@
+pub mod Upper
+pub mod Inner
