@@ -3,6 +3,7 @@
 use causality::Test;
 use restore::choice::may_choose;
 ghost use mathlib.Core.Path.{_≡_};
+ghost use mathlib.Core.Bool.{false};
 ghost use mathlib.Core.List.{_++_};
 ghost use Prim.Native.Nat.{_<_, _≤_};
 ghost use lib.ListN.{length, drop};
@@ -43,52 +44,26 @@ fn set_number(log: &[u8], identifier: u32, w: usize) -> u32
     c
 }
 
-// Whether worker w has no checkpoint with this identifier.
-fn is_without_set(log: &[u8], identifier: u32, w: usize) -> bool
-    requires { ⌜ logRefusal (now log) ≡ 0 ⌝ }
-    ensures answer { λ r. ⌜ r ≡ withoutSet (workersOf (now (log .entry))) identifier w ⌝ }
-{
-    log::checkpoint_count(log, w) < set_number(log, identifier, w)
-}
-
-// The index of worker w's checkpoint with this identifier, and 0 where there is none.
-fn set_index(log: &[u8], identifier: u32, w: usize) -> u32
-    requires { ⌜ logRefusal (now log) ≡ 0 ⌝ }
-    ensures answer { λ r. ⌜ r ≡ setIndex (workersOf (now (log .entry))) identifier w ⌝ }
-{
-    let point = log::checkpoint_at(log, w, set_number(log, identifier, w));
-    point.index
-}
-
-// Whether some worker has no checkpoint with this identifier.
-fn some_without_set(log: &[u8], identifier: u32) -> bool
-    requires { ⌜ logRefusal (now log) ≡ 0 ⌝ }
+// Whether some worker has no checkpoint with this identifier. Where each has one, its index is in a word for each worker.
+fn some_without_set(log: &[u8], identifier: u32, indices: &mut [u32]) -> bool
+    requires { ⌜ (logRefusal (now log) ≡ 0) × (workerCount (workersOf (now log)) ≤ length (now indices)) ⌝ }
     ensures answer { λ r. ⌜ r ≡ anyBelow (withoutSet (workersOf (now (log .entry))) identifier) (workerCount (workersOf (now (log .entry)))) ⌝ }
+    ensures indices { λ r. ⌜ (r ≡ false → now (indices .exit)
+        ≡ tabulate (setIndex (workersOf (now (log .entry))) identifier) (workerCount (workersOf (now (log .entry))))
+        ++ drop (workerCount (workersOf (now (log .entry)))) (now (indices .entry))) ⌝ }
 {
     let n = log::worker_count(log);
     let mut w: usize = 0;
     while w < n {
-        if is_without_set(log, identifier, w) {
+        let c = set_number(log, identifier, w);
+        if log::checkpoint_count(log, w) < c {
             return true;
         }
+        let point = log::checkpoint_at(log, w, c);
+        indices[w] = point.index;
         w += 1;
     }
     false
-}
-
-// The index of each worker's checkpoint with this identifier, one word for each worker.
-fn set_indices(log: &[u8], identifier: u32, indices: &mut [u32])
-    requires { ⌜ (logRefusal (now log) ≡ 0) × (workerCount (workersOf (now log)) ≤ length (now indices)) ⌝ }
-    ensures indices { λ _. ⌜ now (indices .exit)
-        ≡ tabulate (setIndex (workersOf (now (log .entry))) identifier) (workerCount (workersOf (now (log .entry))))
-        ++ drop (workerCount (workersOf (now (log .entry)))) (now (indices .entry)) ⌝ }
-{
-    let n = log::worker_count(log);
-    let mut w: usize = 0;
-    while w < n {
-        indices[w] = set_index(log, identifier, w);
-        w += 1;
-    }
 }
 
 // Whether event k + 1 of worker w is a receive without its data after its worker's index, of a send below the sender's index.
@@ -145,11 +120,10 @@ fn is_covering(log: &[u8], identifier: u32) -> bool
     requires { ⌜ logRefusal (now log) ≡ 0 ⌝ }
     ensures answer { λ r. ⌜ r ≡ coveringSet (workersOf (now (log .entry))) identifier ⌝ }
 {
-    if some_without_set(log, identifier) {
+    let mut indices: [u32; log::MAX_WORKERS] = [0; log::MAX_WORKERS];
+    if some_without_set(log, identifier, &mut indices) {
         return false;
     }
-    let mut indices: [u32; log::MAX_WORKERS] = [0; log::MAX_WORKERS];
-    set_indices(log, identifier, &mut indices);
     !some_uncovered(log, &indices)
 }
 

@@ -9,26 +9,25 @@ use borrow.Author.Needs.{needs}
 use Rattle.covering.proofs.is_covering.Statement.{statement}
 use Rattle.covering.proofs.is_covering.Tie as tie
 
+some-without-set-requires : tie.Need-some-without-set-requires
+some-without-set-requires c κs = (c .before .before .pre, well-formed _ (c .before .before .pre) .few)
+
 returns : tie.Need-returns
 unfolding coveringSet
-returns c = rw (← c .before .some-without-set .ensures, c .if1 .taken)
-
-set-indices-requires : tie.Need-set-indices-requires
-set-indices-requires c κs = (c .before .before .before .before .pre, well-formed _ (c .before .before .before .before .pre) .few)
+returns c = rw (← c .before .before .some-without-set .ensures .0, c .if1 .taken)
 
 some-uncovered-requires : tie.Need-some-uncovered-requires
 some-uncovered-requires c κs =
-    let given = c .before .before .before .before .before .before .before .pre in
-    (given, omega (arith, well-formed _ given .few, c .before .before .set-indices .kept .1 .1 .0))
+    let given = c .before .before .before .before .before .before .pre in
+    (given, omega (arith, well-formed _ given .few, c .before .before .before .some-without-set .kept .1 .1 .0))
 
 returns-2 : tie.Need-returns-2
 unfolding coveringSet
 returns-2 c =
-    let ok = well-formed _ (c .before .before .before .before .before .before .before .before .pre) in
-    let stored = c .before .before .before .set-indices .ensures in
-    rw (← c .before .before .before .before .before .before .some-without-set .ensures, c .before .before .before .before .before .if1 .left)
-    (ap not (c .some-uncovered .ensures ∙ workers-uncovered _ ok _ _ (λ v h. rw stored (stored-at _ _ _ v h))))
+    let ok = well-formed _ (c .before .before .before .before .before .before .before .pre) in
+    let found = c .before .before .before .before .some-without-set .ensures in
+    let each = c .before .before .if1 .left in
+    rw (← found .0, each) (ap not (c .some-uncovered .ensures ∙ workers-uncovered _ ok _ _ (λ v h. rw (found .1 each) (stored-at _ _ _ v h))))
 
 pub is-covering-spec : {M : Type 1} → statement M
-is-covering-spec =
-    tie.close (tie.spec (λ c κs. search needs) returns (λ c. search needs) set-indices-requires (λ c. search needs) some-uncovered-requires returns-2)
+is-covering-spec = tie.close (tie.spec (λ c. search needs) some-without-set-requires returns (λ c. search needs) some-uncovered-requires returns-2)
