@@ -3,6 +3,7 @@
 ghost use mathlib.Core.Path.{_≡_};
 ghost use Prim.Native.Nat.{_+_, _*_, _<_, _≤_};
 ghost use lib.ListN.{length};
+ghost use Rattle.ranges.specs.Fold.{tabulate};
 ghost use Rattle.log.specs.Layout.{workersOf};
 ghost use Rattle.log.specs.Model.{workerCount, eventCount, roleOf, eventOf};
 ghost use Rattle.accept.specs.Refusal.{logRefusal};
@@ -24,6 +25,18 @@ pub fn start_in(words: &[u32], w: usize) -> u32
     ensures answer { λ r. ⌜ r ≡ startIn (now (words .entry)) w ⌝ }
 {
     words[3 * w + 1]
+}
+
+// Puts each position at its worker's start in plan words.
+pub fn write_starts(words: &[u32], positions: &mut [u32])
+    requires { ⌜ 3 * length (now positions) ≤ length (now words) ⌝ }
+    ensures positions { λ _. ⌜ now (positions .exit) ≡ tabulate (startIn (now (words .entry))) (length (now (positions .entry))) ⌝ }
+{
+    let mut w: usize = 0;
+    while w < positions.len() {
+        positions[w] = words[3 * w + 1];
+        w += 1;
+    }
 }
 
 // The units of an event: a row for each role, in it a send, a receive without its data, a receive with it.

@@ -5,7 +5,7 @@ mod figure2;
 ghost use mathlib.Core.Path.{_≡_};
 ghost use Prim.Native.Nat.{_<_, _≤_};
 ghost use lib.ListN.{length};
-ghost use Rattle.lent.specs.Lent.{unlessRefused};
+ghost use Rattle.lent.specs.Lent.{onto, unlessRefused};
 ghost use Rattle.log.specs.Layout.{workersOf};
 ghost use Rattle.log.specs.Model.{workerCount};
 ghost use Rattle.accept.specs.Refusal.{logRefusal, given};
@@ -13,7 +13,7 @@ ghost use Rattle.causality.specs.Happened.{IsEvent};
 ghost use Rattle.lower_cut.specs.Figure2.{figure2, lowerCut};
 ghost use Rattle.causality.specs.Refusals.{searchRefusal};
 ghost use Rattle.lower_cut.specs.Workers.{bitOf, workersWord};
-ghost use Rattle.lower_cut.specs.Calls.{foundCut, cutAnswer};
+ghost use Rattle.lower_cut.specs.Calls.{foundCut, cutAnswer, cutTotals};
 
 // What the lower cut returns beside its words.
 pub struct Cut {
@@ -105,4 +105,13 @@ pub fn lower_cut(
     }
     let n = log::worker_count(log);
     found_cut(log, worker as usize, event, &mut words[..n])
+}
+
+// Writes what the lower cut returns.
+pub fn write_cut(totals: &mut [u64], cut: Cut)
+    requires { ⌜ 2 ≤ length (now totals) ⌝ }
+    ensures totals { λ _. ⌜ now (totals .exit) ≡ onto (cutTotals cut) (now (totals .entry)) ⌝ }
+{
+    totals[0] = cut.visits;
+    totals[1] = cut.workers;
 }

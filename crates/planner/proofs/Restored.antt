@@ -26,7 +26,8 @@ use Rattle.replay.specs.Demand3.{Demand3}
 use Rattle.replay.proofs.Demand.{starts-long, plan-held-starts, after-long, demand-3}
 use Rattle.replay.proofs.Call.{plan-state}
 use Rattle.replay.proofs.Storing.{listed-length}
-use Rattle.planner.specs.Calls.{roomRefusal, restoreRefusal, plannedWords, plannedRun, plannedAfter}
+use Rattle.replay.specs.Calls.{roomRefusal, restoreRefusal}
+use Rattle.planner.specs.Calls.{plannedWords, plannedRun, plannedAfter}
 use Rattle.planner.proofs.StepWords.{step-wide}
 
 -- what the call may use where it is not refused; the call of `plan` is then not refused either

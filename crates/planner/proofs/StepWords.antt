@@ -1,17 +1,12 @@
 -- The words of a list of step calls, each an answer and the positions after it. Assumes nothing.
 use mathlib.Core.Path.{_≡_, refl, sym, _∙_, ap}
-use mathlib.Core.Bool.{true, false}
-use mathlib.Core.Logic.{⊎-elim}
 use mathlib.Core.List.{List, [], _∷_, _++_, append-nil}
-use Prim.Native.Nat.{ℕ, suc, _+_, _-_, _*_, _/_, _<_, _≤_}
-use native.Mathlib.Nat.{suc-mul, div-lt-iff-lt-mul}
+use Prim.Native.Nat.{ℕ, suc, _+_, _-_, _*_, _<_, _≤_}
+use native.Mathlib.Nat.{suc-mul}
 use native.Mathlib.Numerals.{add-one}
 use native.Mathlib.Omega.{arith}
 use borrow.Rule.Slice.PartMut.{putMid, same-len-mid}
 use lib.ListN.{length, take, drop, getD, set, length-take, length-drop, length-set, drop-of-length-le}
-use Rattle.ranges.proofs.Order.{lt-or-le}
-use Rattle.lent.specs.Lent.{wordsRefusal}
-use Rattle.lent.proofs.Lent.{words-short, words-enough}
 use Rattle.log.specs.Model.{Workers}
 use Rattle.accept.specs.Refusal.{Given}
 use Rattle.cost.specs.Words.{cutsIn, startsIn}
@@ -20,15 +15,6 @@ use Rattle.replay.specs.Calls.{machineAnswer, machineMoved, machineRun, stepAns
 use Rattle.replay.proofs.Steps.{moved-long}
 use Rattle.replay.proofs.Call.{step-answer, step-positions}
 use Rattle.replay.proofs.Storing.{Storing, done-length, storing-room, storing-more, part-stored}
-
--- whether there are words for the steps, tested by a quotient that cannot wrap
-pub room-quotient : (lent calls n : ℕ) → wordsRefusal (lent / (n + 1)) calls ≡ wordsRefusal lent (calls * (n + 1))
-room-quotient lent calls n =
-    let iff = div-lt-iff-lt-mul {k = n + 1} {x = lent} {y = calls} (omega arith) in
-    ⊎-elim
-    (λ l. words-short _ _ l ∙ sym (words-short _ _ (iff .0 l)))
-    (λ l. words-enough _ _ l ∙ sym (words-enough _ _ (⊎-elim (λ m. let no : ⊥ = omega (arith, iff .1 m) in absurd no) (λ m. m) (lt-or-le lent (calls * (n + 1))))))
-    (lt-or-le (lent / (n + 1)) calls)
 
 -- the first word and the others
 pub put-rest : (part : List ℕ) (a : ℕ) (ys : List ℕ) → length part ≡ length ys + 1 → putMid 1 (length (set part 0 a) - 1) (set part 0 a) ys ≡ a ∷ ys

@@ -2,12 +2,9 @@
 -- Assumes nothing.
 use mathlib.Core.Bool.{Bool, cond}
 use mathlib.Core.List.{List}
-use Prim.Native.Nat.{ℕ, _+_, _*_}
-use Rattle.lent.specs.Lent.{orElse, wordsRefusal}
-use Rattle.log.specs.Model.{Workers, workerCount}
-use Rattle.accept.specs.Refusal.{Given}
+use Prim.Native.Nat.{ℕ}
+use Rattle.log.specs.Model.{Workers}
 use Rattle.lower_cut.specs.Figure2.{lowerCut}
-use Rattle.causality.specs.Refusals.{searchRefusal}
 use Rattle.restore.specs.Plan.{planStarts, planWords}
 use Rattle.replay.specs.Machine.{Step}
 use Rattle.replay.specs.Calls.{machineRun, machineAfter}
@@ -17,16 +14,6 @@ unfoldable pub wordOf : Bool → ℕ
 wordOf b = cond b 1 0
 
 -- ---- the plan with a list of step calls from the planned starts
--- 14 for the totals, the positions, and an answer and the positions of each call
-unfoldable pub roomRefusal : Workers → ℕ → ℕ → ℕ → ℕ → ℕ
-roomRefusal log calls positions steps totals =
-    orElse (wordsRefusal totals 4) (orElse (wordsRefusal positions (workerCount log)) (wordsRefusal steps (calls * (workerCount log + 1))))
-
--- the plan's refusals, with these
-unfoldable pub restoreRefusal : Given → ℕ → ℕ → ℕ → ℕ → ℕ → ℕ → ℕ → ℕ → ℕ
-restoreRefusal log w e calls words scratch positions steps totals =
-    searchRefusal log w e 3 words (roomRefusal (log .workers) calls positions steps totals) scratch
-
 -- the words of the plan, the machine's run of the list over them from the planned starts, and the positions after it
 abbrev pub plannedWords : Workers → ℕ → ℕ → List ℕ
 plannedWords log w e = planWords log (lowerCut log w e)

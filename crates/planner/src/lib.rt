@@ -3,8 +3,6 @@
 mod stepping;
 
 use causality::Test;
-use lower_cut::Cut;
-use restore::Totals;
 ghost use mathlib.Core.Path.{_≡_};
 ghost use mathlib.Core.List.{[], _∷_};
 ghost use Prim.Native.Nat.{_+_, _*_, _≤_};
@@ -21,9 +19,9 @@ ghost use Rattle.lower_cut.specs.Calls.{foundCut, cutTotals};
 ghost use Rattle.covering.specs.Covering.{coveringSet};
 ghost use Rattle.restore.specs.Calls.{foundPlan, planTotals};
 ghost use Rattle.replay.specs.Machine.{listed, answerWord, stepWords};
-ghost use Rattle.replay.specs.Calls.{stepAnswer, stepAfter, stepsRefusal, stepsAfter, machineRun};
+ghost use Rattle.replay.specs.Calls.{stepAnswer, stepAfter, stepsRefusal, stepsAfter, restoreRefusal, machineRun};
 ghost use Rattle.replay.specs.Demand3.{Demand3};
-ghost use Rattle.planner.specs.Calls.{wordOf, restoreRefusal, plannedWords, plannedRun, plannedAfter};
+ghost use Rattle.planner.specs.Calls.{wordOf, plannedWords, plannedRun, plannedAfter};
 
 // 0 for an accepted log, else the number that refuses it.
 #[no_mangle]
@@ -51,26 +49,6 @@ pub extern "C" fn upper_line(log: &[u8], worker: u32, event: u32, words: &mut [u
     upper_line::upper_line(log, worker, event, words)
 }
 
-// Writes what the lower cut returns.
-fn write_cut(totals: &mut [u64], cut: Cut)
-    requires { ⌜ 2 ≤ length (now totals) ⌝ }
-    ensures totals { λ _. ⌜ now (totals .exit) ≡ onto (cutTotals cut) (now (totals .entry)) ⌝ }
-{
-    totals[0] = cut.visits;
-    totals[1] = cut.workers;
-}
-
-// Writes what the plan returns.
-fn write_plan(totals: &mut [u64], found: Totals)
-    requires { ⌜ 4 ≤ length (now totals) ⌝ }
-    ensures totals { λ _. ⌜ now (totals .exit) ≡ onto (planTotals found) (now (totals .entry)) ⌝ }
-{
-    totals[0] = found.visits;
-    totals[1] = found.events;
-    totals[2] = found.units;
-    totals[3] = found.workers;
-}
-
 // The lower cut of a breakpoint event; the totals are its visits and its workers word.
 #[no_mangle]
 pub extern "C" fn lower_cut(
@@ -93,7 +71,7 @@ pub extern "C" fn lower_cut(
     if refusal != 0 {
         return refusal;
     }
-    write_cut(totals, found);
+    lower_cut::write_cut(totals, found);
     0
 }
 
@@ -119,7 +97,7 @@ pub extern "C" fn plan(
     if refusal != 0 {
         return refusal;
     }
-    write_plan(totals, found);
+    restore::write_plan(totals, found);
     0
 }
 
@@ -219,7 +197,7 @@ pub extern "C" fn restore_and_replay(
         (take (3 * workerCount (workersOf (now (log .entry)))) (now (words .exit))) (take (workerCount (workersOf (now (log .entry)))) (now (positions .exit)))
         (take (length (now (workers .entry)) * (workerCount (workersOf (now (log .entry))) + 1)) (now (steps .exit)))) ⌝ }
 {
-    let refusal = stepping::restore_refusal(
+    let refusal = replay::list::restore_refusal(
         log,
         worker,
         event,

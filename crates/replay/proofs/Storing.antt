@@ -1,13 +1,17 @@
 -- A loop that makes one step for each worker number of a list, and stores words of each step one after the other. Assumes nothing.
 use mathlib.Core.Path.{_≡_, refl, sym, _∙_, ap}
+use mathlib.Core.Logic.{⊎-elim}
 use mathlib.Core.List.{List, [], _∷_, _++_, append-nil, append-assoc}
-use Prim.Native.Nat.{ℕ, suc, _+_, _-_, _*_, _<_, _≤_}
-use native.Mathlib.Nat.{suc-mul, mul-le-mul-right}
+use Prim.Native.Nat.{ℕ, suc, _+_, _-_, _*_, _/_, _<_, _≤_}
+use native.Mathlib.Nat.{suc-mul, mul-le-mul-right, div-lt-iff-lt-mul}
 use native.Mathlib.Numerals.{add-one}
 use native.Mathlib.Omega.{arith}
 use borrow.Rule.Slice.PartMut.{putMid}
 use lib.ListN.{length, take, drop, getD, set, length-set, length-append, drop-of-length-le}
 use lib.Seq.{take-suc, take-at, drop-at, drop-drop, drop-cons, set-at, length-take-le, take-all}
+use Rattle.ranges.proofs.Order.{lt-or-le}
+use Rattle.lent.specs.Lent.{wordsRefusal}
+use Rattle.lent.proofs.Lent.{words-short, words-enough}
 use Rattle.log.specs.Model.{Workers}
 use Rattle.cost.specs.Words.{cutsIn, startsIn}
 use Rattle.replay.specs.Machine.{Step, stepOf, moved, run, positionsAfter, listed, answerWord}
@@ -121,3 +125,12 @@ module _ (log : Workers) (words workers lent into : List ℕ) (enough : length w
       storing-more answerWord 1 log words workers lent into (λ p w h. refl) j positions answers is h next (set answers j answer) machine
       (ap (λ (l : List ℕ). set l j answer) (is .front) ∙ rw (one, ← told) front)
       (length-set answers j answer ∙ is .whole)
+
+-- whether there are words for the steps, tested by a quotient that cannot wrap
+pub room-quotient : (lent calls n : ℕ) → wordsRefusal (lent / (n + 1)) calls ≡ wordsRefusal lent (calls * (n + 1))
+room-quotient lent calls n =
+    let iff = div-lt-iff-lt-mul {k = n + 1} {x = lent} {y = calls} (omega arith) in
+    ⊎-elim
+    (λ l. words-short _ _ l ∙ sym (words-short _ _ (iff .0 l)))
+    (λ l. words-enough _ _ l ∙ sym (words-enough _ _ (⊎-elim (λ m. let no : ⊥ = omega (arith, iff .1 m) in absurd no) (λ m. m) (lt-or-le lent (calls * (n + 1))))))
+    (lt-or-le (lent / (n + 1)) calls)

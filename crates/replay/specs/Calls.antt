@@ -1,15 +1,15 @@
--- The whole answer of the calls `step` and `steps`, from all that is lent.
+-- The whole answer of the calls `step` and `steps`, and the refusals of the plan with a list of steps, from all that is lent.
 -- Assumes nothing.
 use mathlib.Core.Bool.{Bool, not, cond, _&&_}
 use mathlib.Core.List.{List, [], _∷_}
-use Prim.Native.Nat.{ℕ, _*_}
+use Prim.Native.Nat.{ℕ, _+_, _*_}
 use lib.Dec.{eqb, leb}
 use lib.ListN.{length}
 use Rattle.ranges.specs.Fold.{anyBelow}
 use Rattle.lent.specs.Lent.{at, orElse, wordsRefusal}
 use Rattle.log.specs.Model.{Workers, workerCount, eventCount}
 use Rattle.accept.specs.Refusal.{Given}
-use Rattle.causality.specs.Refusals.{workerRefusal}
+use Rattle.causality.specs.Refusals.{workerRefusal, searchRefusal}
 use Rattle.cost.specs.Words.{cutIn, startIn, cutsIn, startsIn}
 use Rattle.replay.specs.Machine.{Step, answerOf, movedBy, moved, run, positionsAfter}
 
@@ -67,3 +67,13 @@ calls log words positions (w ∷ workers) =
 -- the position words after a list of steps that gives this refusal
 unfoldable pub stepsAfter : ℕ → Workers → List ℕ → List ℕ → List ℕ → List ℕ
 stepsAfter refusal log words positions workers = cond (eqb refusal 0) (machineAfter log words positions workers) positions
+
+-- the plan with a list of step calls from the planned starts: 14 for the totals, the positions, and an answer and the positions of each call
+unfoldable pub roomRefusal : Workers → ℕ → ℕ → ℕ → ℕ → ℕ
+roomRefusal log calls positions steps totals =
+    orElse (wordsRefusal totals 4) (orElse (wordsRefusal positions (workerCount log)) (wordsRefusal steps (calls * (workerCount log + 1))))
+
+-- the plan's refusals, with these
+unfoldable pub restoreRefusal : Given → ℕ → ℕ → ℕ → ℕ → ℕ → ℕ → ℕ → ℕ → ℕ
+restoreRefusal log w e calls words scratch positions steps totals =
+    searchRefusal log w e 3 words (roomRefusal (log .workers) calls positions steps totals) scratch

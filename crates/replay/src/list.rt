@@ -1,4 +1,4 @@
-// A step for each number of a list.
+// A step for each number of a list, and the refusals of a plan with such a list.
 
 ghost use mathlib.Core.Path.{_≡_};
 ghost use mathlib.Core.List.{_++_};
@@ -8,7 +8,7 @@ ghost use Rattle.lent.specs.Lent.{wordsRefusal, unlessRefused};
 ghost use Rattle.log.specs.Layout.{workersOf};
 ghost use Rattle.accept.specs.Refusal.{logRefusal, given};
 ghost use Rattle.replay.specs.Machine.{listed, answerWord};
-ghost use Rattle.replay.specs.Calls.{stepsRefusal, machineRun, machineAfter, stepsAfter};
+ghost use Rattle.replay.specs.Calls.{stepsRefusal, roomRefusal, restoreRefusal, machineRun, machineAfter, stepsAfter};
 ghost use Rattle.replay.specs.Inner.State.{IsState};
 
 // Refusals 1 to 16 of a list of steps.
@@ -63,4 +63,41 @@ pub fn steps(
     }
     advance_each(log, words, positions, workers, answers);
     0
+}
+
+// Refusal 14 for the totals, the positions and the words of the steps. Whether there are words for all steps is tested by a quotient, so
+// that no product wraps.
+fn room_refusal(log: &[u8], calls: usize, positions: usize, steps: usize, totals: usize) -> u32
+    requires { ⌜ logRefusal (now log) ≡ 0 ⌝ }
+    ensures answer { λ r. ⌜ r ≡ roomRefusal (workersOf (now (log .entry))) calls positions steps totals ⌝ }
+{
+    let n = log::worker_count(log);
+    let placed = lent::words_refusal(positions, n);
+    let stepped = lent::words_refusal(steps / (n + 1), calls);
+    lent::or_else(
+        lent::words_refusal(totals, 4),
+        lent::or_else(placed, stepped),
+    )
+}
+
+// Refusals 1 to 15 of a plan with a list of step calls.
+pub fn restore_refusal(
+    log: &[u8],
+    worker: u32,
+    event: u32,
+    calls: usize,
+    words: usize,
+    scratch: usize,
+    positions: usize,
+    steps: usize,
+    totals: usize,
+) -> u32
+    ensures answer { λ r. ⌜ r ≡ restoreRefusal (given (now (log .entry))) worker event calls words scratch positions steps totals ⌝ }
+{
+    let refusal = accept::accept(log);
+    if refusal != 0 {
+        return refusal;
+    }
+    let others = room_refusal(log, calls, positions, steps, totals);
+    causality::refusals::search_refusal(log, worker, event, 3, words, others, scratch)
 }

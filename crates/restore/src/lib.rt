@@ -5,10 +5,10 @@ mod starts;
 
 use lower_cut::Cut;
 ghost use mathlib.Core.Path.{_≡_};
-ghost use Prim.Native.Nat.{_*_, _<_};
+ghost use Prim.Native.Nat.{_*_, _<_, _≤_};
 ghost use lib.ListN.{length};
 ghost use Rattle.ranges.specs.Fold.{tabulate};
-ghost use Rattle.lent.specs.Lent.{unlessRefused, KeptIfRefused};
+ghost use Rattle.lent.specs.Lent.{onto, unlessRefused, KeptIfRefused};
 ghost use Rattle.log.specs.Layout.{workersOf};
 ghost use Rattle.log.specs.Model.{workerCount};
 ghost use Rattle.accept.specs.Refusal.{logRefusal, given};
@@ -18,7 +18,7 @@ ghost use Rattle.causality.specs.Refusals.{searchRefusal};
 ghost use Rattle.lower_cut.specs.Calls.{foundCut};
 ghost use Rattle.restore.specs.Plan.{planWords};
 ghost use Rattle.cost.specs.Words.{cutIn, cutsIn};
-ghost use Rattle.restore.specs.Calls.{foundPlan, planAnswer};
+ghost use Rattle.restore.specs.Calls.{foundPlan, planAnswer, planTotals};
 
 // What the plan returns beside its words.
 pub struct Totals {
@@ -115,4 +115,15 @@ pub fn plan(
         &mut words[..all],
         &mut scratch[..n],
     )
+}
+
+// Writes what the plan returns.
+pub fn write_plan(totals: &mut [u64], found: Totals)
+    requires { ⌜ 4 ≤ length (now totals) ⌝ }
+    ensures totals { λ _. ⌜ now (totals .exit) ≡ onto (planTotals found) (now (totals .entry)) ⌝ }
+{
+    totals[0] = found.visits;
+    totals[1] = found.events;
+    totals[2] = found.units;
+    totals[3] = found.workers;
 }

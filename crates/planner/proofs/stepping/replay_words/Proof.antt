@@ -9,13 +9,13 @@ step-each-requires : tie.Need-step-each-requires
 unfolding startsIn
 step-each-requires c κs =
     let given = c .before .before .before .before .before .before .before .before .before .before .before .pre in
-    let begun = c .before .before .before .before .begin in
+    let begun = c .before .before .before .before .write-starts in
     (given .0, rw (rw (given .2) at (begun .ensures)) (given .1), begun .kept .1 .0 ∙ given .2, given .3)
 
 returns : tie.Need-returns
 unfolding startsIn
 returns c =
-    let begun = rw (c .before .before .before .before .before .before .before .before .before .before .before .before .before .before .before .before .pre .2) at (c .before .before .before .before .before .before .before .before .before .begin .ensures) in
+    let begun = rw (c .before .before .before .before .before .before .before .before .before .before .before .before .before .before .before .before .pre .2) at (c .before .before .before .before .before .before .before .before .before .write-starts .ensures) in
     let stepped = c .before .before .before .before .step-each .ensures in
     (rw (begun) at (stepped .0), rw (begun) at (stepped .1))
 

@@ -1,10 +1,10 @@
--- `planner::stepping::restore_refusal` meets its contract. Assumes nothing.
+-- `replay::list::restore_refusal` meets its contract. Assumes nothing.
 use mathlib.Core.Path.{sym, _∙_}
 use Rattle.causality.proofs.Allowed.{refused-log}
-use Rattle.planner.specs.Calls.{restoreRefusal}
+use Rattle.replay.specs.Calls.{restoreRefusal}
 use borrow.Author.Needs.{needs}
-use Rattle.planner.proofs.stepping.restore_refusal.Statement.{statement}
-use Rattle.planner.proofs.stepping.restore_refusal.Tie as tie
+use Rattle.replay.proofs.list.restore_refusal.Statement.{statement}
+use Rattle.replay.proofs.list.restore_refusal.Tie as tie
 
 returns : tie.Need-returns
 unfolding restoreRefusal

@@ -1,4 +1,4 @@
--- `planner::stepping::begin` meets its contract. Assumes nothing.
+-- `cost::write_starts` meets its contract. Assumes nothing.
 use mathlib.Core.Path.{_≡_, refl, sym, _∙_}
 use mathlib.Core.List.{_++_}
 use Prim.Native.Nat.{_≤_, _-_}
@@ -9,9 +9,9 @@ use Rattle.ranges.specs.Fold.{tabulate}
 use Rattle.ranges.proofs.Tabulate.{store-more, full-table}
 use native.Mathlib.Nat.{le-antisymm}
 use borrow.Author.Needs.{scaled-fits}
 use Rattle.cost.specs.Words.{startIn}
-use Rattle.planner.proofs.stepping.begin.Statement.{statement}
-use Rattle.planner.proofs.stepping.begin.Tie as tie
+use Rattle.cost.proofs.write_starts.Statement.{statement}
+use Rattle.cost.proofs.write_starts.Tie as tie
 
 abbrev Inv-loop : tie.InvT-loop
 Inv-loop words positions₀ w₀ positions w = (w ≤ length positions₀) × (length positions ≡ length positions₀) × (positions ≡ tabulate (startIn words) w ++ drop w positions₀)
@@ -57,8 +57,8 @@ same-length c = c .before .loop .inv .1
 returns : tie.Need-returns Inv-loop μ-loop
 returns c = let e = le-antisymm (c .before .loop .inv .0) (rw (c .before .loop .inv .1) at (c .loop-test .left)) in c .before .loop .inv .2 ∙ full-table (startIn (c .before .before .args .words .now)) (c .before .before .args .positions .now) (c .before .loop .w) (omega arith) ∙ rw e
 
-pub begin-spec : {M : Type 1} → statement M
-begin-spec =
+pub write-starts-spec : {M : Type 1} → statement M
+write-starts-spec =
     tie.close
     (tie.spec
     Inv-loop

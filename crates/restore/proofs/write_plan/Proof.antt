@@ -1,11 +1,11 @@
--- `planner::write_plan` meets its contract. Assumes nothing.
+-- `restore::write_plan` meets its contract. Assumes nothing.
 use native.Mathlib.Omega.{arith}
 use lib.ListN.{length-set}
 use Rattle.lent.proofs.Lent.{storeEach, stored-words}
 use Rattle.restore.specs.Calls.{planTotals}
 use borrow.Author.Needs.{needs}
-use Rattle.planner.proofs.write_plan.Statement.{statement}
-use Rattle.planner.proofs.write_plan.Tie as tie
+use Rattle.restore.proofs.write_plan.Statement.{statement}
+use Rattle.restore.proofs.write_plan.Tie as tie
 
 slice-write-totals-2 : tie.Need-slice-write-totals-2
 slice-write-totals-2 c = simp length-set (omega (arith, c .pre))

@@ -1,9 +1,9 @@
--- `planner::write_cut` meets its contract. Assumes nothing.
+-- `lower_cut::write_cut` meets its contract. Assumes nothing.
 use Rattle.lent.proofs.Lent.{storeEach, stored-words}
 use Rattle.lower_cut.specs.Calls.{cutTotals}
 use borrow.Author.Needs.{needs}
-use Rattle.planner.proofs.write_cut.Statement.{statement}
-use Rattle.planner.proofs.write_cut.Tie as tie
+use Rattle.lower_cut.proofs.write_cut.Statement.{statement}
+use Rattle.lower_cut.proofs.write_cut.Tie as tie
 
 same-length : tie.Need-same-length
 same-length c = search needs

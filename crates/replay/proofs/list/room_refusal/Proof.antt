@@ -1,11 +1,11 @@
--- `planner::stepping::room_refusal` meets its contract. Assumes nothing.
+-- `replay::list::room_refusal` meets its contract. Assumes nothing.
 use mathlib.Core.Path.{sym, _∙_}
 use Rattle.accept.proofs.Accepted.{accepted-layout}
-use Rattle.planner.specs.Calls.{roomRefusal}
-use Rattle.planner.proofs.StepWords.{room-quotient}
+use Rattle.replay.specs.Calls.{roomRefusal}
+use Rattle.replay.proofs.Storing.{room-quotient}
 use borrow.Author.Needs.{needs}
-use Rattle.planner.proofs.stepping.room_refusal.Statement.{statement}
-use Rattle.planner.proofs.stepping.room_refusal.Tie as tie
+use Rattle.replay.proofs.list.room_refusal.Statement.{statement}
+use Rattle.replay.proofs.list.room_refusal.Tie as tie
 
 worker-count-requires : tie.Need-worker-count-requires
 worker-count-requires c κs = accepted-layout _ (c .before .pre)
