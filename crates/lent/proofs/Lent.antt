@@ -7,7 +7,7 @@ use Prim.Native.Nat.{ℕ, suc, _+_, _<_, _≤_}
 use native.Mathlib.Omega.{arith}
 use borrow.Author.Tests.{lt-ltb, le-ltb, ltb-false, eqb-true, eqb-false, eq-eqb, ne-eqb}
 use lib.Dec.{eqb, ltb}
-use lib.ListN.{length, take, drop, getD, set, length-append}
+use lib.ListN.{length, take, drop, getD, set, length-append, drop-of-length-le}
 use lib.Seq.{take-at, drop-cons, set-at}
 use Rattle.lent.specs.Lent.{orElse, wordsRefusal, onto, unlessRefused}
 
@@ -54,6 +54,13 @@ written refusal n new lent e long = rw (eq-eqb refusal 0 e, long)
 pub put : (refusal : ℕ) (new lent : List ℕ) → refusal ≡ 0 → onto new lent ≡ unlessRefused refusal new lent
 unfolding unlessRefused
 put refusal new lent e = rw (eq-eqb refusal 0 e)
+
+-- words that are all written hold the new ones
+pub whole : (refusal : ℕ) (new lent : List ℕ) → refusal ≡ 0 → length new ≡ length lent → new ≡ unlessRefused refusal new lent
+unfolding onto
+whole refusal new lent none long =
+    let end : length lent ≤ length new = omega arith in
+    sym (append-nil new) ∙ sym (rw (drop-of-length-le lent end)) ∙ put refusal new lent none
 
 pub untouched : (refusal : ℕ) (new lent : List ℕ) → refusal ≢ 0 → lent ≡ unlessRefused refusal new lent
 unfolding unlessRefused

@@ -19,7 +19,7 @@ ghost use Rattle.lower_cut.specs.Calls.{foundCut, cutTotals};
 ghost use Rattle.covering.specs.Covering.{coveringSet};
 ghost use Rattle.restore.specs.Calls.{foundPlan, planTotals};
 ghost use Rattle.replay.specs.Machine.{listed, answerWord, stepWords};
-ghost use Rattle.replay.specs.Calls.{stepAnswer, stepAfter, stepsRefusal, stepsAfter, restoreRefusal, machineRun};
+ghost use Rattle.replay.specs.Calls.{stepAnswer, stepAfter, stepsRefusal, restoreRefusal, machineRun, machineAfter};
 ghost use Rattle.replay.specs.Demand3.{Demand3};
 ghost use Rattle.planner.specs.Calls.{wordOf, plannedWords, plannedRun, plannedAfter};
 
@@ -165,7 +165,8 @@ pub extern "C" fn steps(
 ) -> u32
     ensures answer { λ r. ⌜ r ≡ stepsRefusal (given (now (log .entry))) (now (words .entry)) (now (positions .entry))
         (wordsRefusal (length (now (answers .entry))) (length (now (workers .entry)))) ⌝ }
-    ensures positions { λ r. ⌜ now (positions .exit) ≡ stepsAfter r (workersOf (now (log .entry))) (now (words .entry)) (now (positions .entry)) (now (workers .entry)) ⌝ }
+    ensures positions { λ r. ⌜ now (positions .exit) ≡ unlessRefused r
+        (machineAfter (workersOf (now (log .entry))) (now (words .entry)) (now (positions .entry)) (now (workers .entry))) (now (positions .entry)) ⌝ }
     ensures answers { λ r. ⌜ now (answers .exit) ≡ unlessRefused r
         (listed answerWord (machineRun (workersOf (now (log .entry))) (now (words .entry)) (now (positions .entry)) (now (workers .entry)))) (now (answers .entry)) ⌝ }
 {

@@ -8,7 +8,7 @@ use native.Mathlib.Omega.{arith}
 use lib.ListN.{length, getD, take}
 use Rattle.log.specs.Model.{Workers}
 use Rattle.replay.specs.Machine.{Step, moved, stepOf, run, positionsAfter}
-use Rattle.replay.proofs.Steps.{Between, moved-between}
+use Rattle.replay.proofs.Steps.{Between, moved-long, moved-between}
 
 -- the last of a list with a first element
 last-cons : {A : Type 0} (a d : A) (l : List A) → getLastD (a ∷ l) d ≡ getLastD l a
@@ -23,6 +23,12 @@ module _ (log : Workers) (cut starts : List ℕ) where
   after-between positions [] between = between
   after-between positions (w ∷ workers) between =
       after-between (moved log cut starts positions w) workers (moved-between log cut starts positions w between)
+
+  -- a list of steps keeps the number of position words
+  pub after-long : (positions workers : List ℕ) → length (positionsAfter log cut starts positions workers) ≡ length positions
+  unfolding positionsAfter
+  after-long positions [] = refl
+  after-long positions (w ∷ workers) = after-long (moved log cut starts positions w) workers ∙ moved-long log cut starts positions w
 
   -- a step for each worker number
   pub length-run : (positions workers : List ℕ) → length (run log cut starts positions workers) ≡ length workers

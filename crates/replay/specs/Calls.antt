@@ -64,10 +64,6 @@ calls log words positions [] = []
 calls log words positions (w ∷ workers) =
     record { answer = stepAnswer log words positions w; positions = stepAfter log words positions w } ∷ calls log words (stepAfter log words positions w) workers
 
--- the position words after a list of steps that gives this refusal
-unfoldable pub stepsAfter : ℕ → Workers → List ℕ → List ℕ → List ℕ → List ℕ
-stepsAfter refusal log words positions workers = cond (eqb refusal 0) (machineAfter log words positions workers) positions
-
 -- the plan with a list of step calls from the planned starts: 14 for the totals, the positions, and an answer and the positions of each call
 unfoldable pub roomRefusal : Workers → ℕ → ℕ → ℕ → ℕ → ℕ
 roomRefusal log calls positions steps totals =

@@ -8,7 +8,7 @@ ghost use Rattle.lent.specs.Lent.{wordsRefusal, unlessRefused};
 ghost use Rattle.log.specs.Layout.{workersOf};
 ghost use Rattle.accept.specs.Refusal.{logRefusal, given};
 ghost use Rattle.replay.specs.Machine.{listed, answerWord};
-ghost use Rattle.replay.specs.Calls.{stepsRefusal, roomRefusal, restoreRefusal, machineRun, machineAfter, stepsAfter};
+ghost use Rattle.replay.specs.Calls.{stepsRefusal, roomRefusal, restoreRefusal, machineRun, machineAfter};
 ghost use Rattle.replay.specs.Inner.State.{IsState};
 
 // Refusals 1 to 16 of a list of steps.
@@ -52,7 +52,8 @@ pub fn steps(
 ) -> u32
     ensures answer { λ r. ⌜ r ≡ stepsRefusal (given (now (log .entry))) (now (words .entry)) (now (positions .entry))
         (wordsRefusal (length (now (answers .entry))) (length (now (workers .entry)))) ⌝ }
-    ensures positions { λ r. ⌜ now (positions .exit) ≡ stepsAfter r (workersOf (now (log .entry))) (now (words .entry)) (now (positions .entry)) (now (workers .entry)) ⌝ }
+    ensures positions { λ r. ⌜ now (positions .exit) ≡ unlessRefused r
+        (machineAfter (workersOf (now (log .entry))) (now (words .entry)) (now (positions .entry)) (now (workers .entry))) (now (positions .entry)) ⌝ }
     ensures answers { λ r. ⌜ now (answers .exit)
         ≡ unlessRefused r (listed answerWord (machineRun (workersOf (now (log .entry))) (now (words .entry)) (now (positions .entry)) (now (workers .entry)))) (now (answers .entry)) ⌝ }
 {

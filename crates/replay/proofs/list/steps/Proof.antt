@@ -1,9 +1,8 @@
 -- `replay::list::steps` meets its contract. Assumes nothing.
 use mathlib.Core.Path.{refl, sym, _∙_}
 use native.Mathlib.Omega.{arith}
-use borrow.Author.Tests.{eq-eqb, ne-eqb}
-use Rattle.lent.proofs.Lent.{words-ok, written, untouched}
-use Rattle.replay.specs.Calls.{stepsAfter}
+use Rattle.lent.proofs.Lent.{words-ok, written, whole, untouched}
+use Rattle.replay.proofs.Lists.{after-long}
 use Rattle.replay.proofs.Call.{steps-ok}
 use Rattle.replay.proofs.Storing.{answers-length}
 use borrow.Author.Needs.{needs}
@@ -14,9 +13,8 @@ steps-refusal-requires : tie.Need-steps-refusal-requires
 steps-refusal-requires c κs = search needs
 
 returns : tie.Need-returns
-unfolding stepsAfter
 returns c =
-    (rw (← c .before .before .before .words-refusal .ensures) (c .before .steps-refusal .ensures), (rw (ne-eqb _ _ (c .if1 .taken)), untouched _ _ _ (c .if1 .taken)))
+    (rw (← c .before .before .before .words-refusal .ensures) (c .before .steps-refusal .ensures), (untouched _ _ _ (c .if1 .taken), untouched _ _ _ (c .if1 .taken)))
 
 advance-each-requires : tie.Need-advance-each-requires
 advance-each-requires c κs =
@@ -24,13 +22,12 @@ advance-each-requires c κs =
     (given .0, given .1, words-ok _ _ (sym (c .before .before .before .before .before .words-refusal .ensures) ∙ given .2))
 
 returns-2 : tie.Need-returns-2
-unfolding stepsAfter
 returns-2 c =
     let found = c .before .before .before .before .before .before .before .before .steps-refusal .ensures in
     let none = c .before .before .before .before .before .before .before .if1 .left in
     let left = c .before .before .before .before .advance-each .ensures in (
       sym none ∙ rw (← c .before .before .before .before .before .before .before .before .before .before .words-refusal .ensures) found,
-      (left .1, left .0 ∙ written _ _ _ _ refl (answers-length _ _ _ _)),
+      (left .1 ∙ whole _ _ _ refl (after-long _ _ _ _ _), left .0 ∙ written _ _ _ _ refl (answers-length _ _ _ _)),
     )
 
 pub steps-spec : {M : Type 1} → statement M
