@@ -1,12 +1,11 @@
 -- The text that document 01, "The tube log", prints, computed from the input: worker 0, event 2, and the 212 bytes of the log.
 -- Assumes nothing.
 use mathlib.Core.Path.{_≡_, refl, _∙_}
-use mathlib.Core.List.{List, [], _∷_, _++_}
+use mathlib.Core.List.{List, _∷_, _++_}
 use Prim.Native.Nat.{ℕ}
 use Rattle.ranges.specs.Fold.{anyBelow, maxBelow, sumBelow, firstBelow, lastBelow, tabulate, sweep}
 use Rattle.bytes_le.specs.Little.{le}
 use Rattle.log.specs.Model.{workerCount, worker, roleOf, eventCount, eventOf, checkpointCount, checkpointOf, isSend, isUnlogged, isLogged, isReceive}
-use Rattle.log.specs.Layout.{workersOf}
 use Rattle.lent.specs.Lent.{orElse}
 use Rattle.accept.specs.Tube.{tube, tubeLog}
 use Rattle.accept.proofs.Tube.{tube-workers, tube-accepted}

@@ -3,9 +3,8 @@
 use mathlib.Core.Path.{_≡_, refl, sym, _∙_, ap}
 use mathlib.Core.List.{List, _++_}
 use Prim.Native.Nat.{ℕ, _+_, _*_, _≤_}
-use native.Mathlib.Omega.{arith}
 use lib.ListN.{length, take, drop}
-use Rattle.lent.specs.Lent.{orElse, wordsRefusal, onto, unlessRefused}
+use Rattle.lent.specs.Lent.{wordsRefusal, onto, unlessRefused}
 use Rattle.lent.proofs.Lent.{or-else-zero, words-ok, put, written, named-words}
 use Rattle.log.specs.Layout.{workersOf}
 use Rattle.log.specs.Model.{Workers, workerCount}

@@ -1,7 +1,7 @@
 -- Demand 3 holds of the plan of every accepted log and breakpoint event, with every list of worker numbers. Assumes nothing.
 use mathlib.Core.Path.{_≡_, refl, sym, _∙_, ap}
 use mathlib.Core.List.{List}
-use Prim.Native.Nat.{ℕ, _+_, _*_, _/_, _%_, _<_, _≤_}
+use Prim.Native.Nat.{ℕ, _+_, _*_, _/_, _%_, _<_}
 use native.Mathlib.Omega.{arith}
 use lib.ListN.{length, getD}
 use Rattle.ranges.proofs.Tabulate.{getD-tabulate}
@@ -11,7 +11,7 @@ use Rattle.log.specs.Model.{Workers, workerCount, initial}
 use Rattle.log.proofs.Read.{worker-within}
 use Rattle.accept.specs.WellFormed.{WellFormed}
 use Rattle.causality.specs.Happened.{IsEvent}
-use Rattle.causality.specs.Cut.{IsCut, Consistent, Within}
+use Rattle.causality.specs.Cut.{Consistent, Within}
 use Rattle.lower_cut.specs.Calls.{foundCut}
 use Rattle.lower_cut.specs.Figure2.{lowerCut}
 use Rattle.lower_cut.proofs.LowerCut.{lower-is, lower-happened}
@@ -20,10 +20,10 @@ use Rattle.restore.specs.Choice.{startsOf}
 use Rattle.restore.specs.Plan.{planChoice, planStarts, planAt, planWord, planWords}
 use Rattle.cost.specs.Words.{cutsIn, startsIn}
 use Rattle.restore.specs.Calls.{foundPlan, planTotals}
-use Rattle.restore.proofs.Written.{plan-long, plan-cut, plan-cuts, plan-starts-in}
+use Rattle.restore.proofs.Written.{plan-cut, plan-cuts, plan-starts-in}
 use Rattle.restore.proofs.Latest.{AreLatest, plan-latest, plan-starts, plan-starts-latest}
 use Rattle.cost.proofs.Costs.{events-fall, units-fall}
-use Rattle.replay.specs.Machine.{run, positionsAfter, listed, stepWords}
+use Rattle.replay.specs.Machine.{positionsAfter, listed, stepWords}
 use Rattle.replay.specs.Calls.{machineRun, machineAfter}
 use Rattle.replay.specs.Demand3.{Rival, Demand3}
 use Rattle.replay.proofs.Steps.{Between, starts-between}

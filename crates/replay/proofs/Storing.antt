@@ -7,7 +7,7 @@ use native.Mathlib.Nat.{suc-mul, mul-le-mul-right, div-lt-iff-lt-mul}
 use native.Mathlib.Numerals.{add-one}
 use native.Mathlib.Omega.{arith}
 use borrow.Rule.Slice.PartMut.{putMid}
-use lib.ListN.{length, take, drop, getD, set, length-set, length-append, drop-of-length-le}
+use lib.ListN.{length, take, drop, getD, set, length-set, length-append}
 use lib.Seq.{take-suc, take-at, drop-at, drop-drop, drop-cons, set-at, length-take-le, take-all}
 use Rattle.ranges.proofs.Order.{lt-or-le}
 use Rattle.lent.specs.Lent.{wordsRefusal}

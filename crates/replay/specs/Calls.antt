@@ -3,7 +3,7 @@
 use mathlib.Core.Bool.{Bool, not, cond, _&&_}
 use mathlib.Core.List.{List, [], _∷_}
 use Prim.Native.Nat.{ℕ, _+_, _*_}
-use lib.Dec.{eqb, leb}
+use lib.Dec.{leb}
 use lib.ListN.{length}
 use Rattle.ranges.specs.Fold.{anyBelow}
 use Rattle.lent.specs.Lent.{at, orElse, wordsRefusal}

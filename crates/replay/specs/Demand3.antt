@@ -13,7 +13,7 @@ use Rattle.causality.specs.Cut.{Within, receivesWithin}
 use Rattle.lower_cut.specs.Figure2.{lowerCut}
 use Rattle.restore.specs.Choice.{IsChoice, startsOf}
 use Rattle.restore.specs.Plan.{planChoice, planWords}
-use Rattle.cost.specs.Words.{cutIn, startIn, cutsIn, startsIn}
+use Rattle.cost.specs.Words.{cutIn, cutsIn, startsIn}
 use Rattle.cost.specs.Cost.{Table, eventsOf, unitsOf, builtIn}
 use Rattle.restore.specs.Calls.{foundPlan, planTotals}
 use Rattle.replay.specs.Machine.{listed, stepWords, doneIn, AtCut, Works}

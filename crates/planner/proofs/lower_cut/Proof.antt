@@ -1,5 +1,5 @@
 -- `planner::lower_cut` meets its contract. Assumes nothing.
-use mathlib.Core.Path.{refl, sym, _∙_}
+use mathlib.Core.Path.{sym, _∙_}
 use Rattle.lent.proofs.Lent.{words-ok, put-found, untouched}
 use Rattle.causality.proofs.Allowed.{search-ok}
 use Rattle.lower_cut.specs.Calls.{cutAnswer, cutTotals}

@@ -1,5 +1,5 @@
 -- `replay::step` meets its contract. Assumes nothing.
-use mathlib.Core.Path.{sym, _∙_}
+use mathlib.Core.Path.{sym}
 use Rattle.replay.proofs.Call.{step-ok, step-refused, step-answer, step-positions}
 use borrow.Author.Needs.{needs}
 use Rattle.replay.proofs.step.Statement.{statement}

@@ -1,5 +1,4 @@
 -- `replay::list::room_refusal` meets its contract. Assumes nothing.
-use mathlib.Core.Path.{sym, _∙_}
 use Rattle.accept.proofs.Accepted.{accepted-layout}
 use Rattle.replay.specs.Calls.{roomRefusal}
 use Rattle.replay.proofs.Storing.{room-quotient}

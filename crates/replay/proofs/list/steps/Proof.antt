@@ -1,6 +1,5 @@
 -- `replay::list::steps` meets its contract. Assumes nothing.
 use mathlib.Core.Path.{refl, sym, _∙_}
-use native.Mathlib.Omega.{arith}
 use Rattle.lent.proofs.Lent.{words-ok, written, whole, untouched}
 use Rattle.replay.proofs.Lists.{after-long}
 use Rattle.replay.proofs.Call.{steps-ok}
