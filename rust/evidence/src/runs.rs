@@ -261,9 +261,8 @@ pub fn deep(workers: usize, levels: usize) -> Description {
     };
     for (w, worker) in description.workers.iter_mut().enumerate() {
         worker.role = (w % 4) as u32;
-        let count = worker.events.len() as u32;
-        worker.checkpoints = (0..8).map(|k| (count * k / 8, k + 1)).collect();
     }
+    take_sets(&mut description.workers, 8);
     description
 }
 
@@ -321,10 +320,7 @@ pub fn hub(workers: usize, events: usize) -> Description {
             .events
             .push(Event::receive(kind, from, send, stamp + 2));
     }
-    for worker in &mut description.workers {
-        let count = worker.events.len() as u32;
-        worker.checkpoints = (0..16).map(|k| (count * k / 16, k + 1)).collect();
-    }
+    take_sets(&mut description.workers, 16);
     description
 }
 
@@ -345,10 +341,66 @@ pub fn ring(workers: usize, events: usize) -> Description {
     }
     run.send(1, 0);
     run.receive(1, 0);
-    for worker in &mut run.workers {
-        let count = worker.events.len() as u32;
-        worker.checkpoints = (0..20).map(|k| (count * k / 20, k + 1)).collect();
+    take_sets(&mut run.workers, 20);
+    Description {
+        workers: run.workers,
     }
+}
+
+/// Checkpoints of all workers at the same `many` parts of their events, with the identifiers 1, 2, ..
+fn take_sets(workers: &mut [Worker], many: u32) {
+    for worker in workers {
+        let count = worker.events.len() as u32;
+        worker.checkpoints = (0..many).map(|k| (count * k / many, k + 1)).collect();
+    }
+}
+
+/// A log of two levels of hubs with about `events` events: worker 0 receives from `hubs` workers in turn, each of which first receives
+/// from the next of its share of the others.
+pub fn two_level_hub(workers: usize, hubs: usize, events: usize) -> Description {
+    let mut run = InOrder {
+        workers: vec![Worker::default(); workers],
+        stamp: 0,
+    };
+    let leaves = workers - 1 - hubs;
+    for k in 0..events / 4 {
+        let hub = 1 + k % hubs;
+        let leaf = 1 + hubs + (k * hubs + k % hubs) % leaves;
+        run.send(leaf, hub);
+        run.receive(leaf, hub);
+        run.send(hub, 0);
+        run.receive(hub, 0);
+    }
+    take_sets(&mut run.workers, 16);
+    Description {
+        workers: run.workers,
+    }
+}
+
+/// A log of a chain of long visits with about `events` events: each of the first `chain` workers receives from half of the others in
+/// turn, each of which first receives from one of the other half, and then from the worker before it. The breakpoint is the last event
+/// of the chain's last worker. Its visit goes down the chain first, so each visit of the chain finds all its senders again.
+pub fn chain(workers: usize, chain: usize, events: usize) -> Description {
+    let mut run = InOrder {
+        workers: vec![Worker::default(); workers],
+        stamp: 0,
+    };
+    let senders = (workers - chain) / 2;
+    let rounds = events / chain / senders / 4;
+    for link in 0..chain {
+        for k in 0..rounds * senders {
+            let sender = chain + k % senders;
+            run.send(sender + senders, sender);
+            run.receive(sender + senders, sender);
+            run.send(sender, link);
+            run.receive(sender, link);
+        }
+        if link > 0 {
+            run.send(link - 1, link);
+            run.receive(link - 1, link);
+        }
+    }
+    take_sets(&mut run.workers, 16);
     Description {
         workers: run.workers,
     }

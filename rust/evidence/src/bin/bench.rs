@@ -2,20 +2,20 @@
 //!
 //! `cargo run --release --bin bench`
 //!
-//! The three are run in turn, and each time is the least of many. The lent words are not cleared between runs; a call of the exported
-//! function and one of the reference have their own. Every call tests the whole log, so each ratio has that in it.
+//! The three are run in turn, and each time is the least of many. Where logs are short, some twenty of them are gone through in turn,
+//! since the processor learns the branches of one that is read again and again. The lent words are not cleared between runs; a call of
+//! the exported function and one of the reference have their own. Every call tests the whole log, so each ratio has that in it.
 
 use evidence::compare::State;
 use evidence::description::Description;
 use evidence::random::Random;
-use evidence::runs::{deep, hub, ring, run, Shape};
+use evidence::runs::{chain, deep, hub, ring, run, two_level_hub, Shape};
 use restore_planner::calls;
 use std::hint::black_box;
 use std::time::{Duration, Instant};
 
 /// A log with the arguments of the calls on it.
-struct Input {
-    name: String,
+struct Case {
     log: Vec<u8>,
     events: usize,
     /// The breakpoint: the last event of a worker.
@@ -32,8 +32,8 @@ struct Input {
     identifier: u32,
 }
 
-impl Input {
-    fn new(name: String, description: &Description, worker: usize) -> Input {
+impl Case {
+    fn new(description: &Description, worker: usize) -> Case {
         let log = description.pack();
         let accepted = reference::accept(&log).expect("an accepted log");
         let event = accepted.workers[worker].count();
@@ -47,8 +47,7 @@ impl Input {
         let list = state.replay(&accepted).expect("the plan works");
         let (mut words, mut scratch, mut totals) = ([0; 64], [0; 4_096], [0; 2]);
         reference::lower_cut(&log, worker, event, &mut words, &mut scratch, &mut totals);
-        Input {
-            name,
+        Case {
             events: description.events(),
             worker,
             event,
@@ -62,81 +61,56 @@ impl Input {
     }
 }
 
-/// A family of inputs that grow.
+/// Logs of one shape and size, which are gone through in turn.
+struct Input {
+    name: String,
+    cases: Vec<Case>,
+}
+
+/// A log of a shape that has no chance in it.
+fn one(name: &str, description: &Description, worker: usize) -> Input {
+    Input {
+        name: name.to_string(),
+        cases: vec![Case::new(description, worker)],
+    }
+}
+
+/// Families of inputs that grow.
 fn families() -> Vec<Vec<Input>> {
     let mut families = Vec::new();
     for workers in [4, 16, 64] {
         let family = [5_000, 20_000, 80_000, 320_000]
             .into_iter()
             .filter(|events| events / workers <= 60_000)
-            .map(|events| {
-                let mut random = Random::new(events as u64);
-                let description = run(&Shape::long(workers, events), &mut random);
-                Input::new(format!("run {workers} workers"), &description, 0)
+            .map(|events| Input {
+                name: format!("run {workers} workers"),
+                cases: (0..(400_000 / events as u64).clamp(1, 20))
+                    .map(|seed| {
+                        let mut random = Random::round(events as u64, seed);
+                        Case::new(&run(&Shape::long(workers, events), &mut random), 0)
+                    })
+                    .collect(),
             });
         families.push(family.collect());
     }
-    let family = [10, 12, 14, 16].map(|levels| {
-        let name = format!("deep, {levels} levels");
-        Input::new(name, &deep(64, levels), 63)
-    });
+    let family = [10, 12, 14, 16]
+        .map(|levels| one(&format!("deep, {levels} levels"), &deep(64, levels), 63));
     families.push(family.into());
-    let family = [4_000, 16_000, 65_535].map(|events| {
-        let name = "hub, 64 workers".to_string();
-        Input::new(name, &hub(64, events), 0)
-    });
+    let family = [4_000, 16_000, 65_535].map(|events| one("hub, 64 workers", &hub(64, events), 0));
     families.push(family.into());
-    let family = [20_000, 80_000, 300_000].map(|events| {
-        let name = "ring, 64 workers".to_string();
-        Input::new(name, &ring(64, events), 0)
-    });
+    let family =
+        [20_000, 80_000, 240_000].map(|e| one("two-level hub", &two_level_hub(64, 7, e), 0));
+    families.push(family.into());
+    let family = [20_000, 80_000, 300_000].map(|e| one("chain", &chain(64, 16, e), 15));
+    families.push(family.into());
+    let family = [20_000, 80_000, 300_000].map(|e| one("ring, 64 workers", &ring(64, e), 0));
     families.push(family.into());
     families
-}
-
-/// The time of one of `times` runs.
-fn time(times: u32, call: &mut dyn FnMut() -> u32) -> Duration {
-    let start = Instant::now();
-    for _ in 0..times {
-        black_box(call());
-    }
-    start.elapsed() / times
 }
 
 /// The sum of the log's bytes.
 fn plain_pass(log: &[u8]) -> u32 {
     black_box(log).iter().map(|&byte| u32::from(byte)).sum()
-}
-
-/// The least times of an exported call, of the reference and of a plain pass, run in turn for 300 ms and 12 times at least.
-struct Times {
-    exported: Duration,
-    reference: Duration,
-    pass: Duration,
-}
-
-fn measure(
-    log: &[u8],
-    exported: &mut dyn FnMut() -> u32,
-    reference: &mut dyn FnMut() -> u32,
-) -> Times {
-    assert_eq!(exported(), reference(), "the numbers returned");
-    let once = time(1, exported).max(Duration::from_nanos(100));
-    let times = (Duration::from_micros(500).as_nanos() / once.as_nanos()).clamp(1, 1_000) as u32;
-    let mut best = Times {
-        exported: Duration::MAX,
-        reference: Duration::MAX,
-        pass: Duration::MAX,
-    };
-    let start = Instant::now();
-    let mut rounds = 0;
-    while rounds < 12 || start.elapsed() < Duration::from_millis(300) {
-        best.exported = best.exported.min(time(times, exported));
-        best.reference = best.reference.min(time(times, reference));
-        best.pass = best.pass.min(time(times, &mut || plain_pass(log)));
-        rounds += 1;
-    }
-    best
 }
 
 /// The lent words of one side.
@@ -150,12 +124,13 @@ struct Words {
 
 impl Words {
     fn new(input: &Input) -> Words {
+        let longest = input.cases.iter().map(|case| case.list.len()).max();
         Words {
             words: vec![0; 192],
             scratch: vec![0; 4_096],
             totals: vec![0; 4],
             positions: vec![0; 64],
-            answers: vec![0; input.list.len() + 1],
+            answers: vec![0; longest.unwrap_or(0) + 1],
         }
     }
 
@@ -167,112 +142,151 @@ impl Words {
     }
 }
 
-/// The times of each call on an input, by the call's name.
-fn calls_on(input: &Input) -> Vec<(&'static str, Times)> {
-    let Input {
-        log,
-        worker,
-        event,
-        state,
-        list,
-        cut,
-        identifier,
-        ..
-    } = input;
-    let (w, e) = (*worker, *event);
-    let mut a = Words::new(input);
-    let mut b = Words::new(input);
-    let rows = vec![
-        (
-            "log_refusal",
-            measure(log, &mut || calls::log_refusal(log), &mut || {
-                reference::log_refusal(log)
-            }),
-        ),
-        (
-            "vector",
-            measure(
-                log,
-                &mut || calls::vector(log, w, e, &mut a.words),
-                &mut || reference::vector(log, w, e, &mut b.words),
-            ),
-        ),
-        (
-            "step",
-            measure(
-                log,
-                &mut || calls::step(log, &state.plan, a.begin(state), w),
-                &mut || reference::step(log, &state.plan, b.begin(state), w),
-            ),
-        ),
-        (
-            "upper_line",
-            measure(
-                log,
-                &mut || calls::upper_line(log, w, e, &mut a.words),
-                &mut || reference::upper_line(log, w, e, &mut b.words),
-            ),
-        ),
-        (
-            "lower_cut",
-            measure(
-                log,
-                &mut || calls::lower_cut(log, w, e, &mut a.words, &mut a.scratch, &mut a.totals),
-                &mut || {
-                    reference::lower_cut(log, w, e, &mut b.words, &mut b.scratch, &mut b.totals)
-                },
-            ),
-        ),
-        (
-            "cut_test",
-            measure(
-                log,
-                &mut || calls::cut_test(log, cut, &mut a.answers),
-                &mut || reference::cut_test(log, cut, &mut b.answers),
-            ),
-        ),
-        (
-            "covers",
-            measure(
-                log,
-                &mut || calls::covers(log, *identifier, &mut a.answers),
-                &mut || reference::covers(log, *identifier, &mut b.answers),
-            ),
-        ),
-        (
-            "plan",
-            measure(
-                log,
-                &mut || calls::plan(log, w, e, &mut a.words, &mut a.scratch, &mut a.totals),
-                &mut || reference::plan(log, w, e, &mut b.words, &mut b.scratch, &mut b.totals),
-            ),
-        ),
-        (
-            "steps",
-            measure(
-                log,
-                &mut || {
-                    a.begin(state);
-                    let Words {
-                        positions, answers, ..
-                    } = &mut a;
-                    calls::steps(log, &state.plan, positions, list, answers)
-                },
-                &mut || {
-                    b.begin(state);
-                    let Words {
-                        positions, answers, ..
-                    } = &mut b;
-                    reference::steps(log, &state.plan, positions, list, answers)
-                },
-            ),
-        ),
-    ];
-    // Read, so that what the calls wrote is wanted.
-    black_box((a.scratch, a.totals, a.answers));
-    black_box((b.scratch, b.totals, b.answers));
-    rows
+/// A call with the lent words of one side.
+type Call = fn(&Case, &mut Words) -> u32;
+
+/// The time of one call, of `times` times through all cases.
+fn time(input: &Input, times: u32, words: &mut Words, call: Call) -> Duration {
+    let start = Instant::now();
+    for _ in 0..times {
+        for case in &input.cases {
+            black_box(call(case, words));
+        }
+    }
+    start.elapsed() / (times * input.cases.len() as u32)
 }
+
+/// The least times of an exported call, of the reference and of a plain pass, run in turn for 300 ms and 12 times at least.
+struct Times {
+    exported: Duration,
+    reference: Duration,
+    pass: Duration,
+}
+
+fn measure(input: &Input, exported: Call, reference: Call) -> Times {
+    let (mut a, mut b) = (Words::new(input), Words::new(input));
+    for case in &input.cases {
+        assert_eq!(
+            exported(case, &mut a),
+            reference(case, &mut b),
+            "the numbers returned"
+        );
+    }
+    let once = time(input, 1, &mut a, exported).max(Duration::from_nanos(100));
+    let round = once.as_nanos() * input.cases.len() as u128;
+    let times = (Duration::from_micros(500).as_nanos() / round).clamp(1, 1_000) as u32;
+    let mut best = Times {
+        exported: Duration::MAX,
+        reference: Duration::MAX,
+        pass: Duration::MAX,
+    };
+    let start = Instant::now();
+    let mut rounds = 0;
+    while rounds < 12 || start.elapsed() < Duration::from_millis(300) {
+        best.exported = best.exported.min(time(input, times, &mut a, exported));
+        best.reference = best.reference.min(time(input, times, &mut b, reference));
+        let pass = time(input, times, &mut b, |case, _| plain_pass(&case.log));
+        best.pass = best.pass.min(pass);
+        rounds += 1;
+    }
+    // Read, so that what the calls wrote is wanted.
+    black_box((a.words, a.scratch, a.totals, a.positions, a.answers));
+    black_box((b.words, b.scratch, b.totals, b.positions, b.answers));
+    best
+}
+
+/// Each call by its name, exported and of the reference.
+const CALLS: [(&str, Call, Call); 9] = [
+    (
+        "log_refusal",
+        |c, _| calls::log_refusal(&c.log),
+        |c, _| reference::log_refusal(&c.log),
+    ),
+    (
+        "vector",
+        |c, to| calls::vector(&c.log, c.worker, c.event, &mut to.words),
+        |c, to| reference::vector(&c.log, c.worker, c.event, &mut to.words),
+    ),
+    (
+        "step",
+        |c, to| calls::step(&c.log, &c.state.plan, to.begin(&c.state), c.worker),
+        |c, to| reference::step(&c.log, &c.state.plan, to.begin(&c.state), c.worker),
+    ),
+    (
+        "upper_line",
+        |c, to| calls::upper_line(&c.log, c.worker, c.event, &mut to.words),
+        |c, to| reference::upper_line(&c.log, c.worker, c.event, &mut to.words),
+    ),
+    (
+        "lower_cut",
+        |c, to| {
+            let Words {
+                words,
+                scratch,
+                totals,
+                ..
+            } = to;
+            calls::lower_cut(&c.log, c.worker, c.event, words, scratch, totals)
+        },
+        |c, to| {
+            let Words {
+                words,
+                scratch,
+                totals,
+                ..
+            } = to;
+            reference::lower_cut(&c.log, c.worker, c.event, words, scratch, totals)
+        },
+    ),
+    (
+        "cut_test",
+        |c, to| calls::cut_test(&c.log, &c.cut, &mut to.answers),
+        |c, to| reference::cut_test(&c.log, &c.cut, &mut to.answers),
+    ),
+    (
+        "covers",
+        |c, to| calls::covers(&c.log, c.identifier, &mut to.answers),
+        |c, to| reference::covers(&c.log, c.identifier, &mut to.answers),
+    ),
+    (
+        "plan",
+        |c, to| {
+            let Words {
+                words,
+                scratch,
+                totals,
+                ..
+            } = to;
+            calls::plan(&c.log, c.worker, c.event, words, scratch, totals)
+        },
+        |c, to| {
+            let Words {
+                words,
+                scratch,
+                totals,
+                ..
+            } = to;
+            reference::plan(&c.log, c.worker, c.event, words, scratch, totals)
+        },
+    ),
+    (
+        "steps",
+        |c, to| {
+            to.begin(&c.state);
+            let Words {
+                positions, answers, ..
+            } = to;
+            calls::steps(&c.log, &c.state.plan, positions, &c.list, answers)
+        },
+        |c, to| {
+            to.begin(&c.state);
+            let Words {
+                positions, answers, ..
+            } = to;
+            reference::steps(&c.log, &c.state.plan, positions, &c.list, answers)
+        },
+    ),
+];
 
 fn micros(time: Duration) -> f64 {
     time.as_secs_f64() * 1e6
@@ -295,50 +309,59 @@ fn machine() -> String {
     format!("{name}, {number} processors")
 }
 
+/// Prints an input's name and sizes; gives its mean bytes and events.
+fn print_input(input: &Input) -> (f64, f64) {
+    let many = input.cases.len();
+    let mean = |of: &dyn Fn(&Case) -> usize| {
+        input.cases.iter().map(of).sum::<usize>() as f64 / many as f64
+    };
+    let (bytes, events) = (mean(&|c| c.log.len()), mean(&|c| c.events));
+    println!();
+    println!(
+        "{}: {events:.0} events, {bytes:.0} bytes, {many} logs in turn, breakpoint {}/{}, {:.0} visits, list of {:.0} steps",
+        input.name,
+        input.cases[0].worker,
+        input.cases[0].event,
+        mean(&|c| c.visits as usize),
+        mean(&|c| c.list.len()),
+    );
+    println!(
+        "  {:<12} {:>9} {:>9} {:>7} {:>8} {:>8} {:>8} {:>13} {:>14}",
+        "call",
+        "exported",
+        "reference",
+        "pass",
+        "exp/ref",
+        "exp/pass",
+        "ns/event",
+        "growth of exp",
+        "growth of ref"
+    );
+    (bytes, events)
+}
+
 fn main() {
     println!("machine: {}", machine());
     println!("exported, reference, pass: microseconds, the least of many runs; pass is the sum of the log's bytes");
+    println!("exp/pass: nanoseconds an event over those of the plain pass");
     println!("growth: time over that of the same call on the family's next smaller log, divided by the growth in bytes (1.00: linear)");
     let mut worst: Vec<(&str, f64, String)> = Vec::new();
+    let mut accepting: Vec<(String, f64, f64)> = Vec::new();
     for family in families() {
-        let mut smaller: Vec<(&str, Times)> = Vec::new();
-        let mut bytes_before = 0;
+        let mut smaller: Vec<Times> = Vec::new();
+        let mut bytes_before = 0.0;
         for input in family {
-            let bytes = input.log.len();
-            println!();
-            println!(
-                "{}: {} events, {bytes} bytes, breakpoint {}/{}, {} visits, list of {} steps",
-                input.name,
-                input.events,
-                input.worker,
-                input.event,
-                input.visits,
-                input.list.len(),
-            );
-            println!(
-                "  {:<12} {:>9} {:>9} {:>7} {:>8} {:>8} {:>8} {:>13} {:>14}",
-                "call",
-                "exported",
-                "reference",
-                "pass",
-                "exp/ref",
-                "exp/pass",
-                "ns/event",
-                "growth of exp",
-                "growth of ref"
-            );
-            let rows = calls_on(&input);
-            for (at, (call, times)) in rows.iter().enumerate() {
+            let (bytes, events) = print_input(&input);
+            let mut rows = Vec::new();
+            for (at, &(call, exported, reference)) in CALLS.iter().enumerate() {
+                let times = measure(&input, exported, reference);
                 let own = micros(times.exported);
                 let ratio = own / micros(times.reference);
                 let (own_growth, other_growth) = match smaller.get(at) {
-                    Some((_, before)) => {
-                        let larger = bytes as f64 / bytes_before as f64;
-                        (
-                            growth(times.exported, before.exported, larger),
-                            growth(times.reference, before.reference, larger),
-                        )
-                    }
+                    Some(before) => (
+                        growth(times.exported, before.exported, bytes / bytes_before),
+                        growth(times.reference, before.reference, bytes / bytes_before),
+                    ),
                     None => ("-".to_string(), "-".to_string()),
                 };
                 println!(
@@ -346,14 +369,18 @@ fn main() {
                     micros(times.reference),
                     micros(times.pass),
                     own / micros(times.pass),
-                    own * 1e3 / input.events as f64,
+                    own * 1e3 / events,
                 );
-                let name = format!("{}, {} events", input.name, input.events);
-                match worst.iter_mut().find(|(other, ..)| other == call) {
+                if at == 0 {
+                    accepting.push((input.name.clone(), events, own * 1e3 / events));
+                }
+                let name = format!("{}, {events:.0} events", input.name);
+                match worst.iter_mut().find(|(other, ..)| *other == call) {
                     Some(entry) if entry.1 < ratio => *entry = (call, ratio, name),
                     Some(_) => (),
                     None => worst.push((call, ratio, name)),
                 }
+                rows.push(times);
             }
             smaller = rows;
             bytes_before = bytes;
@@ -363,5 +390,28 @@ fn main() {
     println!("largest exp/ref of each call:");
     for (call, ratio, name) in worst {
         println!("  {call:<12} {ratio:>6.2}  {name}");
+    }
+    print_guard(&accepting);
+}
+
+/// The test of the log on a run over that on a ring of about as many events: 1 where it has no branch that a run makes unpredictable.
+fn print_guard(accepting: &[(String, f64, f64)]) {
+    println!();
+    println!("log_refusal on a run over that on a ring, nanoseconds an event:");
+    let ring = |events: f64| {
+        accepting
+            .iter()
+            .filter(|(name, ..)| name.starts_with("ring"))
+            .min_by_key(|(_, many, _)| (many - events).abs() as u64)
+            .map(|&(_, _, nanos)| nanos)
+    };
+    for (name, events, nanos) in accepting
+        .iter()
+        .filter(|(name, ..)| name.starts_with("run"))
+    {
+        if let Some(other) = ring(*events) {
+            let ratio = nanos / other;
+            println!("  {name}, {events:.0} events: {nanos:.2} / {other:.2} = {ratio:.2}");
+        }
     }
 }
