@@ -7,10 +7,10 @@ use mathlib.Core.Bool.{Bool, true, false, cond, _&&_, false≢true}
 use mathlib.Core.List.{List}
 use Prim.Native.Nat.{ℕ, _+_, _-_, _*_, _<_, _≤_}
 use native.Mathlib.Omega.{arith}
-use borrow.Author.Tests.{leb-true, leb-false, ltb-true, ltb-false}
+use borrow.Author.Tests.{leb-true, leb-false, le-leb, lt-leb, ltb-true, ltb-false}
 use lib.Dec.{leb}
 use lib.ListN.{length, set, length-set}
-use lib.Seq.{getD-set-same, getD-set-other}
+use lib.Seq.{getD-set-same, getD-set-other, set-getD, set-set}
 use Rattle.ranges.specs.Fold.{firstBelow, sumBelow}
 use Rattle.ranges.proofs.Order.{lt-or-le, at-or-other, climbing}
 use Rattle.ranges.proofs.First.{first}
@@ -18,15 +18,20 @@ use Rattle.ranges.proofs.Sum.{sum-lt}
 use Rattle.ranges.proofs.Tabulate.{length-tabulate, getD-tabulate-past}
 use Rattle.log.specs.declared.Event.{Event}
 use Rattle.log.specs.declared.Checkpoint.{Checkpoint}
+use Rattle.log.specs.Limits.{maxEvents}
 use Rattle.log.specs.Model.{Workers, workerCount, eventOf, checkpointCount, checkpointOf, isUnlogged}
 use Rattle.log.proofs.Read.{worker-within, count-past}
+use Rattle.log.specs.Layout.{workersOf}
+use Rattle.accept.specs.Refusal.{logRefusal}
 use Rattle.accept.specs.WellFormed.{WellFormed}
+use Rattle.accept.proofs.Accepted.{well-formed}
 use Rattle.lent.specs.Lent.{at}
+use Rattle.causality.specs.Happened.{IsEvent}
 use Rattle.causality.specs.Cut.{IsCut}
 use Rattle.restore.specs.Choice.{mayChoose, IsChoice, startsOf, Startable}
 use Rattle.restore.specs.Plan.{identifierOf, identifierAt}
 use Rattle.cost.specs.Words.{startIn, cutsIn, startsIn}
-use Rattle.restore.specs.Inner.Rollback.{numberIn, numberBelow, placed, resent, pending, RollingBack, Looked, Settled}
+use Rattle.restore.specs.Inner.Rollback.{numberIn, numberBelow, placed, unloggedSend, resent, pending, RollingBack, Looked, Settled}
 use Rattle.restore.proofs.Choosable.{may-recorded}
 use Rattle.restore.proofs.Startable.{starts-at, unlogged-receive}
 use Rattle.restore.proofs.Chosen.{IndexOffered, choice-starts, identifier-last}
@@ -171,10 +176,6 @@ module _ (log : Workers) (ok : WellFormed log) (cut : List ℕ) (isCut : IsCut l
           (lt-or-le k j)
 
 -- ---- the events of a worker
--- one event fewer is left of a worker
-pub looked-falls : (looked : List ℕ) (w : ℕ) → w < length looked → 0 < at looked w → at (set looked w (at looked w - 1)) w < at looked w
-looked-falls looked w short some = rw (getD-set-same looked w (at looked w - 1) 0 short) (omega arith)
-
 pub looked-none : (log : Workers) (cut words looked : List ℕ) → RollingBack log cut words looked → Looked log cut words looked words looked
 looked-none log cut words looked state = record { rolling = state; starts = λ v. omega arith; looks = λ v. omega arith }
 
@@ -196,6 +197,76 @@ module _ (log : Workers) (ok : WellFormed log) (cut : List ℕ) (isCut : IsCut l
             (rw (getD-set-same looked w k 0 short) (omega (arith, so .looks w)))
             (λ v n. rw (getD-set-other looked w v k 0 n) (so .looks v));
       }
+
+-- while the events of worker w are looked at: those from x + 1 on have been, and w starts where it did
+pub record Looking (log : Workers) (cut words₀ looked₀ : List ℕ) (w start : ℕ) (words : List ℕ) (x : ℕ) : Type 0 where
+  pub looked : Looked log cut words₀ looked₀ words (set looked₀ w x)
+  pub own : startIn words w ≡ start
+
+pub looking-none : (log : Workers) (cut words looked : List ℕ) → RollingBack log cut words looked → (w : ℕ)
+    → Looking log cut words looked w (startIn words w) words (at looked w)
+looking-none log cut words looked state w = record { looked = rw (set-getD looked w 0) (looked-none log cut words looked state); own = refl }
+
+module _ (log : Workers) (ok : WellFormed log) (cut : List ℕ) (isCut : IsCut log cut) (words₀ looked₀ : List ℕ) (w : ℕ) (here : w < workerCount log)
+    (start : ℕ) (words : List ℕ) (x : ℕ) (so : Looking log cut words₀ looked₀ w start words x) where
+  short : w < length looked₀
+  short = omega (arith, here, length-set looked₀ w x, so .looked .rolling .long)
+
+  at-x : at (set looked₀ w x) w ≡ x
+  at-x = getD-set-same looked₀ w x 0 short
+
+  -- every start is below the number that stands for no send
+  pub looking-few : (v : ℕ) → v < workerCount log → startIn words v ≤ maxEvents
+  looking-few v h = omega (arith, so .looked .rolling .within v h, isCut .within v, ok .events v)
+
+  pub looking-event : start < x → IsEvent log w x
+  looking-event some = (omega arith, omega (arith, so .looked .rolling .looks w, at-x, isCut .within w))
+
+  -- the sender is another worker
+  own-start : startIn (resent log (eventOf log w x) words) w ≡ startIn words w
+  unfolding resent
+  own-start = go (isUnlogged e) refl (leb (e .send) (startIn words (e .peer)))
+    where
+      e : Event
+      e = eventOf log w x
+
+      go : (a : Bool) → isUnlogged e ≡ a → (b : Bool)
+          → startIn (cond (a && b) (placed log words (e .peer) (numberBelow log (e .peer) (e .send) (numberIn words (e .peer)))) words) w ≡ startIn words w
+      go false p b = refl
+      go true p false = refl
+      go true p true = placed-start-other log words (e .peer) _ w (λ q. ok .sent w x (unlogged-receive e p) .other (sym q))
+
+  pub looking-more : start < x → Looking log cut words₀ looked₀ w start (resent log (eventOf log w x) words) (x - 1)
+  looking-more some =
+      let more = looked-more log ok cut isCut words₀ looked₀ words (set looked₀ w x) (so .looked) w here (omega (arith, at-x, so .own)) in
+      record { looked = rw (set-set looked₀ w x (x - 1)) at (rw at-x at more); own = own-start ∙ so .own }
+
+  pub looking-done : x ≤ start → at (set looked₀ w x) w ≤ startIn words w
+  looking-done end = omega (arith, at-x, so .own)
+
+-- the words of an event's peer are there
+pub peer-wide : (s : List ℕ) (w x wide : ℕ) (e : Event) → logRefusal s ≡ 0 → wide ≡ 3 * workerCount (workersOf s) → IsEvent (workersOf s) w x
+    → e ≡ eventOf (workersOf s) w x → 3 * e .peer + 3 ≤ wide
+peer-wide s w x wide e accepted long is q =
+    let here : e .peer < workerCount (workersOf s) = rw q (well-formed s accepted .peers w x (is .0) (is .1)) in
+    omega arith
+
+-- the comparison of a start with an event's send, or with the number that stands for none
+pub compared-above : (e : Event) (start : ℕ) → start < unloggedSend e → (isUnlogged e && leb (e .send) start) ≡ false
+unfolding unloggedSend
+compared-above e start = go (isUnlogged e)
+  where
+    go : (b : Bool) → start < cond b (e .send) 4294967295 → (b && leb (e .send) start) ≡ false
+    go true l = lt-leb (e .send) start l
+    go false l = refl
+
+pub compared-below : (e : Event) (start : ℕ) → start ≤ maxEvents → unloggedSend e ≤ start → (isUnlogged e && leb (e .send) start) ≡ true
+unfolding unloggedSend
+compared-below e start few = go (isUnlogged e)
+  where
+    go : (b : Bool) → cond b (e .send) 4294967295 ≤ start → (b && leb (e .send) start) ≡ true
+    go true l = le-leb (e .send) start l
+    go false l = let no : ⊥ = omega arith in absurd no
 
 -- words whose workers were rolled back hold the cut
 pub rolling-cut : (log : Workers) (cut words looked : List ℕ) → IsCut log cut → RollingBack log cut words looked → cutsIn log words ≡ cut

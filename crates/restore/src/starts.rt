@@ -3,18 +3,21 @@
 use crate::choice::may_choose;
 use cost::cut_in;
 use cost::start_in;
+use log::Event;
 ghost use mathlib.Core.Path.{_≡_};
-ghost use Prim.Native.Nat.{_+_, _-_, _*_, _<_, _≤_};
-ghost use lib.ListN.{length, set};
+ghost use Prim.Native.Nat.{ℕ, _+_, _*_, _<_, _≤_};
+ghost use lib.ListN.{length};
 ghost use Rattle.ranges.specs.Fold.{firstBelow};
 ghost use Rattle.lent.specs.Lent.{at};
+ghost use Rattle.log.specs.Limits.{maxEvents};
 ghost use Rattle.log.specs.Layout.{workersOf};
 ghost use Rattle.log.specs.Model.{workerCount, eventOf};
 ghost use Rattle.accept.specs.Refusal.{logRefusal};
+ghost use Rattle.causality.specs.Happened.{IsEvent};
 ghost use Rattle.causality.specs.Cut.{IsCut};
 ghost use Rattle.restore.specs.Plan.{planWords};
 ghost use Rattle.cost.specs.Words.{startIn, cutsIn};
-ghost use Rattle.restore.specs.Inner.Rollback.{numberIn, mayStartBelow, numberBelow, placed, resent, pending, RollingBack, Looked, Settled, finished};
+ghost use Rattle.restore.specs.Inner.Rollback.{numberIn, mayStartBelow, numberBelow, placed, unloggedSend, resent, pending, RollingBack, Looked, Settled, finished};
 
 // The number of worker w's checkpoint, which its third word holds while workers are rolled back.
 fn number_in(words: &[u32], w: usize) -> u32
@@ -79,38 +82,34 @@ fn begin(log: &[u8], words: &mut [u32], looked: &mut [u32])
     }
 }
 
+// The send that a receive without its data names, and a number above every index where the event is no such receive: one comparison
+// then looks at an event, whatever its kind.
+fn unlogged_send(e: Event) -> u32
+    ensures answer { λ r. ⌜ r ≡ unloggedSend e ⌝ }
+{
+    if log::is_unlogged(e) {
+        return e.send;
+    }
+    4294967295
+}
+
 // Looks at event x of worker w: the sender of a receive without its data starts below the send.
 fn resend(log: &[u8], words: &mut [u32], w: usize, x: u32)
-    requires { ⌜ (logRefusal (now log) ≡ 0) × (length (now words) ≡ 3 * workerCount (workersOf (now log))) ⌝ }
+    requires { ⌜ (logRefusal (now log) ≡ 0) × (length (now words) ≡ 3 * workerCount (workersOf (now log))) × IsEvent (workersOf (now log)) w x
+        × ((v : ℕ) → v < workerCount (workersOf (now log)) → startIn (now words) v ≤ maxEvents) ⌝ }
     ensures words { λ _. ⌜ now (words .exit)
         ≡ resent (workersOf (now (log .entry))) (eventOf (workersOf (now (log .entry))) w x) (now (words .entry)) ⌝ }
 {
     let e = log::event_at(log, w, x);
-    if !log::is_unlogged(e) {
-        return;
-    }
     let p = e.peer as usize;
-    if start_in(words, p) < e.send {
+    if start_in(words, p) < unlogged_send(e) {
         return;
     }
     let c = number_below(log, p, number_in(words, p), e.send);
     place(log, words, p, c);
 }
 
-// Looks at the next event of worker w.
-fn look(log: &[u8], words: &mut [u32], looked: &mut [u32], w: usize)
-    requires { ⌜ (logRefusal (now log) ≡ 0) × (length (now words) ≡ 3 * workerCount (workersOf (now log)))
-        × (w < length (now looked)) × (0 < at (now looked) w) ⌝ }
-    ensures words { λ _. ⌜ now (words .exit)
-        ≡ resent (workersOf (now (log .entry))) (eventOf (workersOf (now (log .entry))) w (at (now (looked .entry)) w)) (now (words .entry)) ⌝ }
-    ensures looked { λ _. ⌜ now (looked .exit) ≡ set (now (looked .entry)) w (at (now (looked .entry)) w - 1) ⌝ }
-{
-    let x = looked[w];
-    resend(log, words, w, x);
-    looked[w] = x - 1;
-}
-
-// Looks at all events of worker w after its start.
+// Looks at all events of worker w after its start, from the last that has not been looked at down.
 fn look_worker(log: &[u8], words: &mut [u32], looked: &mut [u32], w: usize)
     requires { ⌜ (logRefusal (now log) ≡ 0) × (w < workerCount (workersOf (now log)))
         × (IsCut (workersOf (now log)) (cutsIn (workersOf (now log)) (now words)))
@@ -119,9 +118,13 @@ fn look_worker(log: &[u8], words: &mut [u32], looked: &mut [u32], w: usize)
         (now (words .entry)) (now (looked .entry)) (now (words .exit)) (now (looked .exit)) ⌝ }
     ensures done { λ _. ⌜ at (now (looked .exit)) w ≤ startIn (now (words .exit)) w ⌝ }
 {
-    while start_in(words, w) < looked[w] {
-        look(log, words, looked, w);
+    let start = start_in(words, w);
+    let mut x = looked[w];
+    while start < x {
+        resend(log, words, w, x);
+        x -= 1;
     }
+    looked[w] = x;
 }
 
 // The first worker with an event to look at, and n where there is none.
