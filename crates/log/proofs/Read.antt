@@ -14,7 +14,7 @@ use Rattle.log.specs.Limits.{maxEvents, maxCheckpoints, maxRole}
 use Rattle.log.specs.Header.{layoutRefusal}
 use Rattle.log.proofs.Readable.{readable}
 use Rattle.log.specs.Layout.{sizeField, headerOf, field, entryOrZero, eventCountField, eventOffsetField, checkpointCountField, checkpointOffsetField, roleField}
-use Rattle.log.specs.Layout.{eventSize, checkpointSize, section, eventSection, checkpointSection, eventRecord, checkpointRecord, workerOf, workersOf}
+use Rattle.log.specs.Layout.{eventSize, checkpointSize, section, eventStart, eventSection, checkpointSection, eventRecord, checkpointRecord, workerOf, workersOf}
 
 -- ---- every log
 module _ (log : Workers) where
@@ -118,7 +118,7 @@ module _ (s : List ℕ) (ok : layoutRefusal s ≡ 0) where
   pub entry-within : (w : ℕ) → w < workerCount (workersOf s) → headerOf (w + 1) ≤ length s
   entry-within w h = let r = readable s ok in let l : w < sizeField s = rw (size-read s) at h in omega arith
 
-  -- event x of worker w, which has n: its worker's entry, its section and its record
+  -- event x of worker w, which has n: its section and its record
   module _ (w x n : ℕ) (positive : x ≢ 0) (size : n ≡ eventCount (workersOf s) w) (h : x ≤ n) where
     event-worker : w < workerCount (workersOf s)
     event-worker = worker-within (workersOf s) w (x - 1) (omega arith)
@@ -126,18 +126,30 @@ module _ (s : List ℕ) (ok : layoutRefusal s ≡ 0) where
     event-inside : w < sizeField s
     event-inside = rw (size-read s) at event-worker
 
-    pub event-entry : headerOf (w + 1) ≤ length s
-    event-entry = entry-within w event-worker
+    start-read : eventStart s w ≡ field s w eventOffsetField
+    unfolding eventStart entryOrZero
+    start-read = rw (lt-leb (sizeField s) w event-inside)
 
-    pub events-within : field s w eventOffsetField + eventSize * n ≤ length s
-    events-within = rw (size, count-read s w event-inside) (readable s ok .entry w event-inside .events-end)
+    pub events-within : eventStart s w + eventSize * n ≤ length s
+    events-within = rw (start-read, size, count-read s w event-inside) (readable s ok .entry w event-inside .events-end)
 
-    pub event-at : eventRecord (section s (field s w eventOffsetField) (eventSize * n)) (x - 1) ≡ eventOf (workersOf s) w x
+    pub event-at : eventRecord (section s (eventStart s w) (eventSize * n)) (x - 1) ≡ eventOf (workersOf s) w x
     unfolding eventSection
     event-at =
         let counted = count-read s w event-inside in
         let next : suc (x - 1) ≡ x = omega arith in
-        rw (size, counted) (sym (rw next at (event-read s w (x - 1) event-inside (omega arith))))
+        rw (start-read, size, counted) (sym (rw next at (event-read s w (x - 1) event-inside (omega arith))))
+
+  -- event k + 1 of worker w, for a reader that has the start of its section and its count n
+  module _ (w k n start : ℕ) (from : start ≡ eventStart s w) (size : n ≡ eventCount (workersOf s) w) (h : k < n) where
+    some : k + 1 ≢ 0
+    some e = let no : ⊥ = omega arith in no
+
+    pub next-within : start + eventSize * n ≤ length s
+    next-within = rw from (events-within w (k + 1) n some size (omega arith))
+
+    pub next-event : eventRecord (section s start (eventSize * n)) k ≡ eventOf (workersOf s) w (k + 1)
+    next-event = let back : k + 1 - 1 ≡ k = omega arith in rw from (rw back at (event-at w (k + 1) n some size (omega arith)))
 
   -- checkpoint c of worker w, which has n: its worker's entry, its section and its record
   module _ (w c n : ℕ) (positive : c ≢ 0) (size : n ≡ checkpointCount (workersOf s) w) (h : c ≤ n) where

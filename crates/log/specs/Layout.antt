@@ -60,6 +60,10 @@ checkpointSize = 8
 unfoldable pub section : List ℕ → ℕ → ℕ → List ℕ
 section s start bytes = take bytes (drop start s)
 
+-- where the section of events of worker w starts, and 0 past the last worker
+unfoldable pub eventStart : List ℕ → ℕ → ℕ
+eventStart s w = entryOrZero s w eventOffsetField
+
 unfoldable pub eventSection : List ℕ → ℕ → List ℕ
 eventSection s w = section s (field s w eventOffsetField) (eventSize * field s w eventCountField)
 

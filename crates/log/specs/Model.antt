@@ -1,9 +1,9 @@
 -- A log as a value, with nothing of bytes or offsets: two logs of the same content are equal. `Event` and `Checkpoint` are the
 -- structs of src/lib.rt.
 -- Assumes nothing.
-use mathlib.Core.Bool.{Bool, _||_}
+use mathlib.Core.Bool.{Bool, cond, _||_}
 use mathlib.Core.List.{List, [], _∷_}
-use Prim.Native.Nat.{ℕ}
+use Prim.Native.Nat.{ℕ, _-_}
 use lib.Dec.{eqb}
 use lib.ListN.{length, getD}
 use Rattle.log.specs.declared.Event.{Event}
@@ -72,3 +72,11 @@ isLogged e = eqb (e .kind) 3
 
 unfoldable pub isReceive : Event → Bool
 isReceive e = isUnlogged e || isLogged e
+
+-- the messages that an event receives: 1 for a receive, else 0
+unfoldable pub received : Event → ℕ
+received e = cond (isReceive e) 1 0
+
+-- "(send, receive without data, receive with data)": the columns of the table of units, from 0
+unfoldable pub column : Event → ℕ
+column e = e .kind - 1

@@ -4,8 +4,8 @@ ghost use mathlib.Core.Path.{_≡_};
 ghost use Prim.Native.Nat.{_+_, _*_, _<_, _≤_};
 ghost use lib.ListN.{length};
 ghost use Rattle.log.specs.Limits.{maxWorkers, maxEvents, maxCheckpoints, maxRole};
-ghost use Rattle.log.specs.Model.{workerCount, eventCount, eventOf, checkpointCount, checkpointOf, roleOf, isSend, isUnlogged, isReceive};
-ghost use Rattle.log.specs.Layout.{formField, sizeField, lengthField, headerOf, field, entryOrZero, section, eventRecord, checkpointRecord, workersOf};
+ghost use Rattle.log.specs.Model.{workerCount, eventCount, eventOf, checkpointCount, checkpointOf, roleOf, isSend, isUnlogged, isReceive, received, column};
+ghost use Rattle.log.specs.Layout.{formField, sizeField, lengthField, headerOf, field, entryOrZero, section, eventStart, eventRecord, checkpointRecord, workersOf};
 ghost use Rattle.log.specs.Header.{limitFault, outside, sectionFault, entryFault, someEntry, entriesRefusal, layoutRefusal};
 
 // The limits of a log.
@@ -260,7 +260,7 @@ fn section_part(log: &[u8], start: usize, count: usize, size: usize) -> &[u8]
 }
 
 // Record k of the section of `count` records that starts at `start`.
-fn event_in(log: &[u8], start: usize, count: usize, k: usize) -> Event
+pub fn event_in(log: &[u8], start: usize, count: usize, k: usize) -> Event
     requires { ⌜ (start + 12 * count ≤ length (now log)) × (k < count) ⌝ }
     ensures answer { λ r. ⌜ r ≡ eventRecord (section (now (log .entry)) start (12 * count)) k ⌝ }
 {
@@ -312,6 +312,14 @@ pub fn event_count(log: &[u8], w: usize) -> u32
     entry_or_zero(log, w, EVENT_COUNT_FIELD)
 }
 
+// Where the section of events of worker w starts, and 0 past the last worker.
+pub fn event_start(log: &[u8], w: usize) -> usize
+    requires { ⌜ layoutRefusal (now log) ≡ 0 ⌝ }
+    ensures answer { λ r. ⌜ r ≡ eventStart (now (log .entry)) w ⌝ }
+{
+    entry_or_zero(log, w, EVENT_OFFSET_FIELD) as usize
+}
+
 // The number of recorded checkpoints of worker w.
 pub fn checkpoint_count(log: &[u8], w: usize) -> u32
     requires { ⌜ layoutRefusal (now log) ≡ 0 ⌝ }
@@ -345,8 +353,7 @@ pub fn event_at(log: &[u8], w: usize, x: u32) -> Event
             stamp: 0,
         };
     }
-    let start = entry(log, w, EVENT_OFFSET_FIELD);
-    event_in(log, start as usize, count as usize, (x - 1) as usize)
+    event_in(log, event_start(log, w), count as usize, (x - 1) as usize)
 }
 
 // Checkpoint c of worker w: 0 is the initial state, which stands past the last recorded one too.
@@ -391,4 +398,23 @@ pub fn is_receive(e: Event) -> bool
         return true;
     }
     e.kind == 3
+}
+
+// The messages that an event receives: 1 for a receive, else 0.
+pub fn received(e: Event) -> u32
+    ensures answer { λ r. ⌜ r ≡ received e ⌝ }
+    ensures few { λ r. ⌜ r ≤ 1 ⌝ }
+{
+    if is_receive(e) {
+        return 1;
+    }
+    0
+}
+
+// The column of the table of units for an event's kind: 0 for a send, 1 for a receive without its data, 2 for one with it.
+pub fn column(e: Event) -> u32
+    requires { ⌜ 0 < e .kind ⌝ }
+    ensures answer { λ r. ⌜ r ≡ column e ⌝ }
+{
+    e.kind as u32 - 1
 }

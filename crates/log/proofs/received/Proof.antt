@@ -1,0 +1,17 @@
+-- `log::received` meets its contract. Assumes nothing.
+use native.Mathlib.Omega.{arith}
+use Rattle.log.specs.Model.{received}
+use borrow.Author.Needs.{needs}
+use Rattle.log.proofs.received.Statement.{statement}
+use Rattle.log.proofs.received.Tie as tie
+
+returns : tie.Need-returns
+unfolding received
+returns c = (rw (← c .before .is-receive .ensures, c .if1 .taken), omega arith)
+
+returns-2 : tie.Need-returns-2
+unfolding received
+returns-2 c = (rw (← c .before .is-receive .ensures, c .if1 .left), omega arith)
+
+pub received-spec : {M : Type 1} → statement M
+received-spec = tie.close (tie.spec (λ c κs. search needs) returns returns-2)
