@@ -32,8 +32,7 @@ resend-requires : tie.Need-resend-requires Inv-loop μ-loop
 resend-requires c κs =
     let pre = c .before .before .before .before .before .before .before .before .before .pre in
     let ok = well-formed _ (pre .0) in
-    let so = c .before .before .loop .inv in
-    (
+    let so = c .before .before .loop .inv in (
       pre .0,
       so .looked .rolling .wide,
       looking-event _ ok _ (pre .2) _ _ _ (pre .1) _ _ _ so (c .before .loop-test .taken),

@@ -18,8 +18,7 @@ start-in-requires c κs =
 returns : tie.Need-returns
 unfolding resent
 returns c =
-    rw
-    (
+    rw (
       ← c .before .before .before .before .before .event-at .ensures,
       compared-above _ _ (rw (c .before .before .start-in .ensures, c .before .unlogged-send .ensures) at (c .if1 .taken)),
     )
