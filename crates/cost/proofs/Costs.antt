@@ -4,7 +4,7 @@ use mathlib.Core.Path.{_≡_, refl}
 use mathlib.Core.Bool.{Bool, true, false, cond, _&&_}
 use mathlib.Core.List.{List, [], _∷_}
 use Prim.Native.Nat.{ℕ, zero, suc, _+_, _-_, _*_, _^_, _<_, _≤_}
-use native.Mathlib.Nat.{le-trans, mul-le-mul-right}
+use native.Mathlib.Nat.{le-trans, mul-le-mul-right, mul-le-mul}
 use native.Mathlib.Omega.{arith}
 use borrow.Author.Tests.{leb-true, le-leb}
 use lib.Dec.{leb}
@@ -60,6 +60,10 @@ small x = leb x 9
 pub table-bound : (role kind : ℕ) → builtIn role kind ≤ 9
 unfolding builtIn
 table-bound role kind = leb-true _ 9 (every-at small 0 refl (getD rows role []) (kind - 1) (every-at (every small) [] refl rows role refl))
+
+-- the units of some events of one kind
+pub product-few : (n role kind units : ℕ) → n ≤ maxEvents → units ≡ builtIn role kind → n * units ≤ maxEvents * 9
+product-few n role kind units few q = let most : units ≤ 9 = rw q (table-bound role kind) in mul-le-mul few most
 
 module _ (log : Workers) (ok : WellFormed log) (cut : List ℕ) (isCut : IsCut log cut) (starts : List ℕ) where
   cut-bound : (w : ℕ) → at cut w ≤ maxEvents

@@ -1,28 +1,28 @@
 -- Plan words that are held over an accepted log: each worker's words, and its replayed events and units as a loop adds them up.
 -- Assumes nothing.
 use mathlib.Core.Path.{_≡_, refl, sym}
-use mathlib.Core.Bool.{Bool, true, false, cond, _||_}
+use mathlib.Core.Bool.{Bool, true, false, _||_}
 use mathlib.Core.Logic.{⊎-elim}
 use mathlib.Core.List.{List}
 use Prim.Native.Nat.{ℕ, _+_, _-_, _*_, _^_, _<_, _≤_}
 use native.Mathlib.Omega.{arith}
-use borrow.Author.Tests.{le-leb, lt-leb, eqb-true}
-use lib.Dec.{leb, eqb}
+use borrow.Author.Tests.{eqb-true}
+use lib.Dec.{eqb}
 use lib.ListN.{length}
 use Rattle.ranges.specs.Fold.{sumBelow}
-use Rattle.ranges.proofs.Sum.{sum-more, sum-bound, sum-grows}
+use Rattle.ranges.proofs.Sum.{sum-more, sum-grows}
 use Rattle.ranges.proofs.Tabulate.{getD-tabulate, tabulate-list}
 use Rattle.log.specs.Limits.{maxEvents}
-use Rattle.log.specs.Model.{Workers, workerCount, eventCount, roleOf, eventOf, isSend, isUnlogged, isLogged, isReceive}
+use Rattle.log.specs.Model.{Workers, workerCount, eventCount, eventOf, isSend, isUnlogged, isLogged, isReceive}
 use Rattle.log.specs.Layout.{workersOf}
 use Rattle.accept.specs.Refusal.{logRefusal}
 use Rattle.accept.specs.WellFormed.{WellFormed}
 use Rattle.accept.proofs.Accepted.{well-formed}
 use Rattle.lent.specs.Lent.{at}
 use Rattle.cost.specs.Words.{cutIn, startIn, cutsIn, startsIn}
-use Rattle.cost.specs.Cost.{replayed, eventsOf, eventUnits, workerUnits, unitsOf, builtIn}
+use Rattle.cost.specs.Cost.{replayed, eventsOf, workerUnits, unitsOf, builtIn}
 use Rattle.cost.specs.Inner.Held.{IsHeld}
-use Rattle.cost.proofs.Costs.{table-bound, events-fit, built-in-fits}
+use Rattle.cost.proofs.Costs.{events-fit, built-in-fits}
 
 module _ (log : Workers) (words : List ℕ) (w : ℕ) (h : w < workerCount log) where
   -- the words of a worker give it its cut ..
@@ -45,28 +45,6 @@ pub starts-are : (log : Workers) (words starts : List ℕ) → length starts ≡
     → startsIn log words ≡ starts
 unfolding startsIn
 starts-are log words starts long same = sym (tabulate-list (startIn words) (workerCount log) 0 starts long (λ w h. sym (same w h)))
-
-module _ (log : Workers) (starts : List ℕ) (w : ℕ) where
-  -- events up to the start add nothing
-  pub units-none : sumBelow (eventUnits builtIn log starts w) (at starts w) ≡ 0
-  unfolding eventUnits
-  units-none =
-      let all = sum-bound (eventUnits builtIn log starts w) (at starts w) 0 (λ k h. rw (lt-leb (at starts w) k h) (omega arith)) in
-      omega arith
-
-  -- an event after the start adds its units
-  pub units-more : (k : ℕ) → at starts w ≤ k → sumBelow (eventUnits builtIn log starts w) (k + 1) ≡ sumBelow (eventUnits builtIn log starts w) k + builtIn (roleOf log w) (eventOf log w (k + 1) .kind)
-  unfolding eventUnits
-  units-more k h = rw (sum-more (eventUnits builtIn log starts w) k, le-leb (at starts w) k h)
-
-  -- at most 9 for each
-  pub units-most : (k : ℕ) → sumBelow (eventUnits builtIn log starts w) k ≤ k * 9
-  unfolding eventUnits
-  units-most k = sum-bound (eventUnits builtIn log starts w) k 9 (λ j h. each j (leb (at starts w) j))
-    where
-      each : (j : ℕ) (t : Bool) → cond t (builtIn (roleOf log w) (eventOf log w (j + 1) .kind)) 0 ≤ 9
-      each j true = table-bound (roleOf log w) (eventOf log w (j + 1) .kind)
-      each j false = omega arith
 
 -- an event's kind is 1, 2 or 3
 pub kind-some : (log : Workers) → WellFormed log → (w x : ℕ) → 0 < x → x ≤ eventCount log w → (0 < eventOf log w x .kind) × (eventOf log w x .kind < 4)

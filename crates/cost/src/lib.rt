@@ -4,12 +4,14 @@ ghost use mathlib.Core.Path.{_≡_};
 ghost use Prim.Native.Nat.{_+_, _*_, _<_, _≤_};
 ghost use lib.ListN.{length};
 ghost use Rattle.ranges.specs.Fold.{tabulate};
+ghost use Rattle.log.specs.Limits.{maxEvents};
 ghost use Rattle.log.specs.Layout.{workersOf};
-ghost use Rattle.log.specs.Model.{workerCount, eventCount, roleOf, eventOf};
+ghost use Rattle.log.specs.Model.{workerCount};
 ghost use Rattle.accept.specs.Refusal.{logRefusal};
 ghost use Rattle.cost.specs.Words.{cutIn, startIn, cutsIn, startsIn};
 ghost use Rattle.cost.specs.Cost.{eventsOf, builtIn, workerUnits, unitsOf};
 ghost use Rattle.cost.specs.Inner.Held.{IsHeld};
+ghost use Rattle.cost.specs.Inner.Counted.{countedUnits};
 
 // The cut of worker w in plan words.
 pub fn cut_in(words: &[u32], w: usize) -> u32
@@ -42,37 +44,48 @@ pub fn write_starts(words: &[u32], positions: &mut [u32])
 // The units of an event: a row for each role, in it a send, a receive without its data, a receive with it.
 const UNITS: [[u64; 3]; 4] = [[2, 3, 5], [2, 4, 6], [3, 8, 9], [2, 5, 7]];
 
-// The units of a role and a kind.
-fn units_for(role: usize, kind: usize) -> u64
-    requires { ⌜ (role < 4) × (0 < kind) × (kind < 4) ⌝ }
-    ensures answer { λ r. ⌜ r ≡ builtIn role kind ⌝ }
+// The units of a role, in a column.
+fn units_for(role: usize, column: usize) -> u64
+    requires { ⌜ (role < 4) × (column < 3) ⌝ }
+    ensures answer { λ r. ⌜ r ≡ builtIn role (column + 1) ⌝ }
 {
-    UNITS[role][kind - 1]
+    UNITS[role][column]
 }
 
-// The units of event x of worker w.
-fn event_units(log: &[u8], w: usize, x: u32) -> u64
-    requires { ⌜ (logRefusal (now log) ≡ 0) × (0 < x) × (x ≤ eventCount (workersOf (now log)) w) ⌝ }
-    ensures answer { λ r. ⌜ r ≡ builtIn (roleOf (workersOf (now (log .entry))) w) (eventOf (workersOf (now (log .entry))) w x .kind) ⌝ }
+// The units of `events` events of a role, of which `receives` are receives; `columns` is the sum of their columns.
+fn counted_units(role: usize, events: u32, receives: u32, columns: u32) -> u64
+    requires { ⌜ (role < 4) × (events ≤ maxEvents) × (receives ≤ events) × (receives ≤ columns) × (columns ≤ 2 * receives) ⌝ }
+    ensures answer { λ r. ⌜ r ≡ countedUnits builtIn role events receives columns ⌝ }
 {
-    let e = log::event_at(log, w, x);
-    units_for(log::role_of(log, w) as usize, e.kind as usize)
+    let sends = (events - receives) as u64;
+    let logged = (columns - receives) as u64;
+    let unlogged = receives as u64 - logged;
+    sends * units_for(role, 0) + unlogged * units_for(role, 1) + logged * units_for(role, 2)
 }
 
-// The units of the replayed events of worker w.
+// The units of the replayed events of worker w. Receives are counted, whatever the order of the kinds, and the table is read at the end.
 fn worker_units(log: &[u8], words: &[u32], w: usize) -> u64
     requires { ⌜ ((logRefusal (now log) ≡ 0) × IsHeld (workersOf (now log)) (now words)) × (w < workerCount (workersOf (now log))) ⌝ }
     ensures answer { λ r. ⌜ r ≡ workerUnits builtIn (workersOf (now (log .entry)))
         (cutsIn (workersOf (now (log .entry))) (now (words .entry))) (startsIn (workersOf (now (log .entry))) (now (words .entry))) w ⌝ }
 {
     let cut = cut_in(words, w);
-    let mut k = start_in(words, w);
-    let mut units: u64 = 0;
+    let start = start_in(words, w);
+    let mut receives: u32 = 0;
+    let mut columns: u32 = 0;
+    let mut k = start;
     while k < cut {
-        units += event_units(log, w, k + 1);
+        let e = log::event_at(log, w, k + 1);
+        receives += log::received(e);
+        columns += log::column(e);
         k += 1;
     }
-    units
+    counted_units(
+        log::role_of(log, w) as usize,
+        cut - start,
+        receives,
+        columns,
+    )
 }
 
 // The units of all replayed events.

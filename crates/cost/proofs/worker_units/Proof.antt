@@ -1,25 +1,27 @@
 -- `cost::worker_units` meets its contract. Assumes nothing.
-use mathlib.Core.Path.{_≡_, sym}
-use Prim.Native.Nat.{_≤_, _-_, _*_}
+use mathlib.Core.Path.{_≡_, sym, _∙_}
+use Prim.Native.Nat.{_+_, _-_, _<_, _≤_}
 use native.Mathlib.Omega.{arith}
 use native.Mathlib.Nat.{le-antisymm}
-use Rattle.ranges.specs.Fold.{sumBelow}
+use borrow.Author.Needs.{needs}
+use Rattle.log.specs.declared.Event.{Event}
+use Rattle.log.specs.Limits.{maxEvents}
 use Rattle.log.specs.Layout.{workersOf}
-use Rattle.lent.specs.Lent.{at}
-use Rattle.cost.specs.Cost.{eventUnits, workerUnits, builtIn}
+use Rattle.log.specs.Model.{eventCount, eventOf, received, column}
+use Rattle.accept.proofs.Accepted.{accepted-layout, well-formed}
+use Rattle.cost.specs.Cost.{workerUnits, builtIn}
 use Rattle.cost.specs.Words.{startsIn}
-use Rattle.cost.proofs.Costs.{table-bound}
-use Rattle.cost.proofs.Held.{cuts-at, starts-in-at, units-none, units-more, units-most, HeldWorker, held-worker}
+use Rattle.cost.proofs.Held.{cuts-at, starts-in-at, kind-some, HeldWorker, held-worker}
+use Rattle.cost.proofs.Counted.{Counted, counted-none, counted-few, counted-units, counted-more}
 use Rattle.cost.proofs.worker_units.Statement.{statement}
 use Rattle.cost.proofs.worker_units.Tie as tie
 
 abbrev Inv-loop : tie.InvT-loop
-Inv-loop log words w cut k₀ units₀ k units =
-    (at (startsIn (workersOf log) words) w ≤ k) × (k ≤ cut)
-    × (units ≡ sumBelow (eventUnits builtIn (workersOf log) (startsIn (workersOf log) words) w) k)
+Inv-loop log words w cut start receives₀ columns₀ k₀ receives columns k =
+    (k ≤ cut) × Counted builtIn (workersOf log) (startsIn (workersOf log) words) w k receives columns
 
 abbrev μ-loop : tie.MeasureT-loop
-μ-loop log words w cut k₀ units₀ k units = cut - k
+μ-loop log words w cut start receives₀ columns₀ k₀ receives columns k = cut - k
 
 -- what the words give the worker
 mine : (c : tie.Start Inv-loop μ-loop) → HeldWorker (workersOf (c .args .log .now)) (c .args .words .now) (c .args .w)
@@ -34,39 +36,91 @@ start-in-requires c κs = mine (c .before .before .before) .wide
 loop-holds : tie.Need-loop-holds Inv-loop μ-loop
 loop-holds c =
     let start = c .before .before .before .before in
-    let same = starts-in-at _ (start .args .words .now) (start .args .w) (start .pre .1) in
-    let word = c .start-in .ensures in
-    (omega (arith, same, word), omega (arith, word, c .before .cut-in .ensures, mine start .start), rw (word, ← same) (sym (units-none _ _ _)))
+    let same = starts-in-at _ (start .args .words .now) (start .args .w) (start .pre .1) in (
+      omega (arith, c .start-in .ensures, c .before .cut-in .ensures, mine start .start),
+      rw (c .start-in .ensures, ← same) (counted-none _ _ _ _),
+    )
 
-add-event-units : tie.Need-add-event-units Inv-loop μ-loop
-add-event-units c = omega (arith, c .before .before .before .cut-in .ensures, mine (c .before .before .before .before .before .before) .most)
+-- the event of this turn is one of the worker's
+inside : (c : tie.In-loop Inv-loop μ-loop)
+    → (c .before .loop .k < maxEvents) × (c .before .loop .k < eventCount (workersOf (c .before .before .before .before .before .before .args .log .now)) (c .before .before .before .before .before .before .args .w))
+inside c =
+    let given = mine (c .before .before .before .before .before .before) in
+    let word = c .before .before .before .cut-in .ensures in
+    (omega (arith, c .loop-test .taken, given .most), omega (arith, c .loop-test .taken, given .cut))
 
-event-units-requires : tie.Need-event-units-requires Inv-loop μ-loop
-event-units-requires c κs =
-    let start = c .before .before .before .before .before .before in (start .pre .0 .0, omega arith, omega (arith, c .before .before .before .cut-in .ensures, mine start .cut))
+-- with it, what is counted
+next : (c : tie.In-loop Inv-loop μ-loop) (e : Event)
+    → e ≡ eventOf (workersOf (c .before .before .before .before .before .before .args .log .now)) (c .before .before .before .before .before .before .args .w) (c .before .loop .k + 1)
+    → Counted builtIn (workersOf (c .before .before .before .before .before .before .args .log .now))
+    (startsIn (workersOf (c .before .before .before .before .before .before .args .log .now)) (c .before .before .before .before .before .before .args .words .now))
+    (c .before .before .before .before .before .before .args .w) (c .before .loop .k + 1) (c .before .loop .receives + received e) (c .before .loop .columns + column e)
+next c e q =
+    counted-more _ _ _ _ _ _ _ (c .before .loop .inv .1) e q (well-formed _ (c .before .before .before .before .before .before .pre .0 .0)) (inside c .1)
 
-add-units : tie.Need-add-units Inv-loop μ-loop
-add-units c =
-    let loop = c .before .before .loop in
-    let sum : loop .units ≤ loop .k * 9 = rw (loop .inv .2) (units-most _ _ _ _) in
-    let more : c .event-units .result ≤ 9 = rw (c .event-units .ensures) (table-bound _ _) in
-    omega (arith, c .before .before .before .before .cut-in .ensures, mine (c .before .before .before .before .before .before .before) .most)
+add-event-at : tie.Need-add-event-at Inv-loop μ-loop
+add-event-at c = omega (arith, inside c .0)
+
+event-at-requires : tie.Need-event-at-requires Inv-loop μ-loop
+event-at-requires c κs = accepted-layout _ (c .before .before .before .before .before .before .pre .0 .0)
+
+add-receives : tie.Need-add-receives Inv-loop μ-loop
+add-receives c =
+    let few = counted-few _ _ _ _ _ _ _ (c .before .before .before .loop .inv .1) in
+    omega (arith, few .0, inside (c .before .before) .0, c .received .ensures .1)
+
+column-requires : tie.Need-column-requires Inv-loop μ-loop
+column-requires c κs =
+    let start = c .before .before .before .before .before .before .before .before in
+    rw (c .before .event-at .ensures) (kind-some _ (well-formed _ (start .pre .0 .0)) (start .args .w) (c .before .before .before .loop .k + 1) (omega arith) (omega (arith, inside (c .before .before) .1)) .0)
+
+add-columns : tie.Need-add-columns Inv-loop μ-loop
+add-columns c =
+    let few = counted-few _ _ _ _ _ _ _ (next (c .before .before .before) _ (c .before .before .event-at .ensures)) in
+    rw (c .column .ensures) (omega (arith, few .0, few .2, inside (c .before .before .before) .0))
 
 add-k : tie.Need-add-k Inv-loop μ-loop
-add-k c = omega (arith, c .before .before .before .before .cut-in .ensures, mine (c .before .before .before .before .before .before .before) .most)
+add-k c = omega (arith, inside (c .before .before .before) .0)
 
 loop-less : tie.Need-loop-less Inv-loop μ-loop
-loop-less c = omega arith
+loop-less c = omega (arith, c .before .before .before .loop-test .taken)
 
 loop-again : tie.Need-loop-again Inv-loop μ-loop
-loop-again c = (omega arith, omega arith, rw (units-more _ _ _ _ (c .before .before .loop .inv .0)) (cc))
+loop-again c = (
+  omega (arith, c .before .before .before .loop-test .taken),
+  rw (c .before .received .ensures .0, c .column .ensures) (next (c .before .before .before) _ (c .before .before .event-at .ensures)),
+)
+
+role-of-requires : tie.Need-role-of-requires Inv-loop μ-loop
+role-of-requires c κs = accepted-layout _ (c .before .before .before .before .before .before .pre .0 .0)
+
+sub-counted-units : tie.Need-sub-counted-units Inv-loop μ-loop
+sub-counted-units c =
+    omega (arith, c .before .before .before .start-in .ensures, c .before .before .before .before .cut-in .ensures, mine (c .before .before .before .before .before .before .before) .start)
+
+counted-units-requires : tie.Need-counted-units-requires Inv-loop μ-loop
+counted-units-requires c κs =
+    let start = c .before .before .before .before .before .before .before in
+    let few = counted-few _ _ _ _ _ _ _ (c .before .before .loop .inv .1) in
+    let same = starts-in-at _ (start .args .words .now) (start .args .w) (start .pre .1) in
+    let word = c .before .before .before .start-in .ensures in (
+      omega (arith, c .role-of .ensures .1),
+      omega (arith, c .before .before .before .before .cut-in .ensures, mine start .most),
+      omega (arith, few .0, same, word, c .before .before .loop .inv .0),
+      few .1,
+      few .2,
+    )
 
 returns : tie.Need-returns Inv-loop μ-loop
 unfolding workerUnits
 returns c =
-    let inv = c .before .loop .inv in
-    let all = le-antisymm (inv .1) (c .loop-test .left) in
-    rw (cuts-at _ _ _ (c .before .before .before .before .before .before .pre .1), ← c .before .before .before .cut-in .ensures, ← all) (inv .2)
+    let start = c .before .before .before .before .before .before .before .before in
+    let inv = c .before .before .before .loop .inv in
+    let all = le-antisymm (inv .0) (c .before .before .loop-test .left) in
+    let same = starts-in-at _ (start .args .words .now) (start .args .w) (start .pre .1) ∙ sym (c .before .before .before .before .start-in .ensures) in
+    c .counted-units .ensures
+    ∙ sym (rw (cuts-at _ _ _ (start .pre .1), ← c .before .before .before .before .before .cut-in .ensures, ← all, c .before .role-of .ensures .0, ← same)
+    (counted-units _ _ _ _ _ _ _ (inv .1)))
 
 pub worker-units-spec : {M : Type 1} → statement M
 worker-units-spec =
@@ -77,10 +131,17 @@ worker-units-spec =
     cut-in-requires
     start-in-requires
     loop-holds
-    add-event-units
-    event-units-requires
-    add-units
+    add-event-at
+    event-at-requires
+    (λ c κs. search needs)
+    add-receives
+    column-requires
+    add-columns
     add-k
     loop-less
     loop-again
+    role-of-requires
+    (λ c. search needs)
+    sub-counted-units
+    counted-units-requires
     returns)

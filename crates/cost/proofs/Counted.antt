@@ -1,0 +1,128 @@
+-- The units of a worker's replayed events, from the number of its receives and the sum of the columns of their kinds.
+-- Assumes nothing.
+use mathlib.Core.Path.{_≡_, refl}
+use mathlib.Core.Logic.{⊎-elim}
+use mathlib.Core.List.{List}
+use Prim.Native.Nat.{ℕ, _+_, _-_, _*_, _<_, _≤_}
+use native.Mathlib.Nat.{suc-mul}
+use native.Mathlib.Numerals.{add-one}
+use native.Mathlib.Omega.{arith}
+use borrow.Author.Tests.{le-leb, lt-leb}
+use Rattle.ranges.specs.Fold.{sumBelow}
+use Rattle.ranges.proofs.Order.{lt-or-le}
+use Rattle.ranges.proofs.Sum.{sum-more, sum-bound}
+use Rattle.log.specs.declared.Event.{Event}
+use Rattle.log.specs.Model.{Workers, eventCount, roleOf, eventOf, isUnlogged, isLogged, isReceive, received, column}
+use Rattle.accept.specs.WellFormed.{WellFormed}
+use Rattle.lent.specs.Lent.{at}
+use Rattle.cost.specs.Cost.{Table, eventUnits}
+use Rattle.cost.specs.Inner.Counted.{countedUnits}
+use Rattle.cost.proofs.Held.{kind-some}
+
+module _ (table : Table) (log : Workers) (starts : List ℕ) (w : ℕ) where
+  -- events up to the start add nothing
+  units-none : sumBelow (eventUnits table log starts w) (at starts w) ≡ 0
+  unfolding eventUnits
+  units-none =
+      let all = sum-bound (eventUnits table log starts w) (at starts w) 0 (λ k h. rw (lt-leb (at starts w) k h) (omega arith)) in
+      omega arith
+
+  -- an event after the start adds its units
+  units-more : (k kind : ℕ) → at starts w ≤ k → eventOf log w (k + 1) .kind ≡ kind
+      → sumBelow (eventUnits table log starts w) (k + 1) ≡ sumBelow (eventUnits table log starts w) k + table (roleOf log w) kind
+  unfolding eventUnits
+  units-more k kind h q = rw (sum-more (eventUnits table log starts w) k, le-leb (at starts w) k h, q)
+
+-- after k events of worker w
+pub record Counted (table : Table) (log : Workers) (starts : List ℕ) (w k receives columns : ℕ) : Type 0 where
+  pub sends : ℕ
+  pub unlogged : ℕ
+  pub logged : ℕ
+  pub all : k ≡ at starts w + (sends + unlogged + logged)
+  pub receive : receives ≡ unlogged + logged
+  pub columned : columns ≡ unlogged + 2 * logged
+  pub units : sumBelow (eventUnits table log starts w) k
+      ≡ sends * table (roleOf log w) 1 + unlogged * table (roleOf log w) 2 + logged * table (roleOf log w) 3
+
+more-times : (n t : ℕ) → (n + 1) * t ≡ n * t + t
+more-times n t = rw (add-one n) (suc-mul n t)
+
+-- the numbers of a kind
+of-send : (e : Event) → e .kind ≡ 1 → (received e ≡ 0) × (column e ≡ 0)
+unfolding received column isReceive isUnlogged isLogged
+of-send e q = (rw q, rw q)
+
+of-unlogged : (e : Event) → e .kind ≡ 2 → (received e ≡ 1) × (column e ≡ 1)
+unfolding received column isReceive isUnlogged isLogged
+of-unlogged e q = (rw q, rw q)
+
+of-logged : (e : Event) → e .kind ≡ 3 → (received e ≡ 1) × (column e ≡ 2)
+unfolding received column isReceive isUnlogged isLogged
+of-logged e q = (rw q, rw q)
+
+module _ (table : Table) (log : Workers) (starts : List ℕ) (w : ℕ) where
+  pub counted-none : Counted table log starts w (at starts w) 0 0
+  counted-none = record { sends = 0; unlogged = 0; logged = 0; all = omega arith; receive = refl; columned = refl; units = omega (arith, units-none table log starts w) }
+
+  module _ (k receives columns : ℕ) (so : Counted table log starts w k receives columns) where
+    -- no more receives than events, and no column above 2
+    pub counted-few : (receives + at starts w ≤ k) × (receives ≤ columns) × (columns ≤ 2 * receives)
+    counted-few = (omega (arith, so .all, so .receive), omega (arith, so .receive, so .columned), omega (arith, so .receive, so .columned))
+
+    -- the units of all that was counted
+    pub counted-units : sumBelow (eventUnits table log starts w) k ≡ countedUnits table (roleOf log w) (k - at starts w) receives columns
+    unfolding countedUnits
+    counted-units =
+        let sent : k - at starts w - receives ≡ so .sends = omega (arith, so .all, so .receive) in
+        let kept : columns - receives ≡ so .logged = omega (arith, so .receive, so .columned) in
+        let lost : receives - so .logged ≡ so .unlogged = omega (arith, so .receive) in
+        rw (sent, kept, lost) (so .units)
+
+    module _ (e : Event) (q : e ≡ eventOf log w (k + 1)) where
+      units-of : (kind : ℕ) → e .kind ≡ kind
+          → sumBelow (eventUnits table log starts w) (k + 1) ≡ sumBelow (eventUnits table log starts w) k + table (roleOf log w) kind
+      units-of kind r = units-more table log starts w k kind (omega (arith, so .all)) (rw q at r)
+
+      -- one event more
+      pub counted-more : WellFormed log → k < eventCount log w → Counted table log starts w (k + 1) (receives + received e) (columns + column e)
+      counted-more ok inside =
+          let kind = kind-some log ok w (k + 1) (omega arith) (omega arith) in
+          let low : 0 < e .kind = rw q (kind .0) in
+          let high : e .kind < 4 = rw q (kind .1) in
+          ⊎-elim (λ l. send (omega arith)) (λ l. ⊎-elim (λ m. unlogged (omega arith)) (λ m. logged (omega arith)) (lt-or-le (e .kind) 3)) (lt-or-le (e .kind) 2)
+        where
+          send : e .kind ≡ 1 → Counted table log starts w (k + 1) (receives + received e) (columns + column e)
+          send r =
+              record {
+                sends = so .sends + 1;
+                unlogged = so .unlogged;
+                logged = so .logged;
+                all = omega (arith, so .all);
+                receive = omega (arith, so .receive, of-send e r .0);
+                columned = omega (arith, so .columned, of-send e r .1);
+                units = omega (arith, units-of 1 r, so .units, more-times (so .sends) (table (roleOf log w) 1));
+              }
+
+          unlogged : e .kind ≡ 2 → Counted table log starts w (k + 1) (receives + received e) (columns + column e)
+          unlogged r =
+              record {
+                sends = so .sends;
+                unlogged = so .unlogged + 1;
+                logged = so .logged;
+                all = omega (arith, so .all);
+                receive = omega (arith, so .receive, of-unlogged e r .0);
+                columned = omega (arith, so .columned, of-unlogged e r .1);
+                units = omega (arith, units-of 2 r, so .units, more-times (so .unlogged) (table (roleOf log w) 2));
+              }
+
+          logged : e .kind ≡ 3 → Counted table log starts w (k + 1) (receives + received e) (columns + column e)
+          logged r =
+              record {
+                sends = so .sends;
+                unlogged = so .unlogged;
+                logged = so .logged + 1;
+                all = omega (arith, so .all);
+                receive = omega (arith, so .receive, of-logged e r .0);
+                columned = omega (arith, so .columned, of-logged e r .1);
+                units = omega (arith, units-of 3 r, so .units, more-times (so .logged) (table (roleOf log w) 3));
+              }

@@ -1,0 +1,67 @@
+-- `cost::counted_units` meets its contract. Assumes nothing.
+use mathlib.Core.Path.{_≡_}
+use Prim.Native.Nat.{ℕ, _-_, _*_, _≤_}
+use native.Mathlib.Omega.{arith}
+use Rattle.log.specs.Limits.{maxEvents}
+use Rattle.cost.specs.Cost.{builtIn}
+use Rattle.cost.specs.Inner.Counted.{countedUnits}
+use Rattle.cost.proofs.Costs.{product-few}
+use borrow.Author.Needs.{needs}
+use Rattle.cost.proofs.counted_units.Statement.{statement}
+use Rattle.cost.proofs.counted_units.Tie as tie
+
+-- each product is small
+sends : (c : tie.Start) (units : ℕ) → units ≡ builtIn (c .args .role) 1 → (c .args .events - c .args .receives) * units ≤ maxEvents * 9
+sends c units q = product-few (c .args .events - c .args .receives) _ 1 units (omega (arith, c .pre .1)) q
+
+unlogged : (c : tie.Start) (units : ℕ) → units ≡ builtIn (c .args .role) 2
+    → (c .args .receives - (c .args .columns - c .args .receives)) * units ≤ maxEvents * 9
+unlogged c units q = product-few (c .args .receives - (c .args .columns - c .args .receives)) _ 2 units (omega (arith, c .pre .1, c .pre .2)) q
+
+logged : (c : tie.Start) (units : ℕ) → units ≡ builtIn (c .args .role) 3 → (c .args .columns - c .args .receives) * units ≤ maxEvents * 9
+logged c units q = product-few (c .args .columns - c .args .receives) _ 3 units (omega (arith, c .pre .1, c .pre .2, c .pre .4)) q
+
+mul-result : tie.Need-mul-result
+mul-result c = omega (arith, sends (c .before) _ (c .units-for .ensures))
+
+mul-result-2 : tie.Need-mul-result-2
+mul-result-2 c = omega (arith, unlogged (c .before .before) _ (c .units-for2 .ensures))
+
+add-result : tie.Need-add-result
+add-result c = omega (arith, sends (c .before .before) _ (c .before .units-for .ensures), unlogged (c .before .before) _ (c .units-for2 .ensures))
+
+mul-result-3 : tie.Need-mul-result-3
+mul-result-3 c = omega (arith, logged (c .before .before .before) _ (c .units-for3 .ensures))
+
+add-result-2 : tie.Need-add-result-2
+add-result-2 c =
+    let start = c .before .before .before in
+    omega (
+      arith,
+      sends start _ (c .before .before .units-for .ensures),
+      unlogged start _ (c .before .units-for2 .ensures),
+      logged start _ (c .units-for3 .ensures),
+    )
+
+returns : tie.Need-returns
+unfolding countedUnits
+returns c = rw (← c .before .before .units-for .ensures, ← c .before .units-for2 .ensures, ← c .units-for3 .ensures)
+
+pub counted-units-spec : {M : Type 1} → statement M
+counted-units-spec =
+    tie.close
+    (tie.spec
+    (λ c. search needs)
+    (λ c. search needs)
+    (λ c. search needs)
+    (λ c. search needs)
+    (λ c. search needs)
+    (λ c κs. search needs)
+    mul-result
+    (λ c κs. search needs)
+    mul-result-2
+    add-result
+    (λ c κs. search needs)
+    mul-result-3
+    add-result-2
+    returns)
