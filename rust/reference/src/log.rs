@@ -194,11 +194,67 @@ fn layout(log: &[u8]) -> Result<Log<'_>, u32> {
     Ok(Log { workers })
 }
 
-/// The smallest of 7 to 11 that some record of the log has, in one pass; 0 if none.
-fn content(log: &Log) -> u32 {
-    const NONE: u32 = u32::MAX;
+/// Whether some event of the log has a fault of 7 to 10. A send is compared with itself where a receive is compared with the send that
+/// it names, so that nothing branches on the kind, which is random in a run.
+fn some_event_faulty(log: &Log) -> bool {
     let size = log.size();
-    let mut lowest = NONE;
+    log.workers.iter().enumerate().any(|(w, worker)| {
+        let mut previous = 0;
+        worker.events.iter().zip(1..).any(|(record, index)| {
+            let event = Event::of(record);
+            let peer = event.other();
+            let receives = u32::from(event.kind >> 1);
+            let names = event.send != 0;
+            if event.spare != 0
+                || !(1..=3).contains(&event.kind)
+                || peer == w
+                || peer >= size
+                || u32::from(names) != receives
+                || event.stamp <= previous
+            {
+                return true;
+            }
+            previous = event.stamp;
+            let (at, named) = if names {
+                (peer, event.send)
+            } else {
+                (w, index)
+            };
+            let sender = &log.workers[at];
+            if named > sender.count() {
+                return true;
+            }
+            let send = sender.event(named);
+            send.kind != 1 || send.other() + at != w + peer || send.stamp > event.stamp - receives
+        })
+    })
+}
+
+/// The smallest of 7 to 11 that some record of the log has; 0 if none.
+fn content(log: &Log) -> u32 {
+    let faulty = |w: &Worker| {
+        let mut previous = Checkpoint::default();
+        w.checkpoints().any(|checkpoint| {
+            let fault = checkpoint.index > w.count()
+                || checkpoint.index < previous.index
+                || checkpoint.identifier <= previous.identifier;
+            previous = checkpoint;
+            fault
+        })
+    };
+    if some_event_faulty(log) {
+        lowest_of_events(log)
+    } else if log.workers.iter().any(faulty) {
+        11
+    } else {
+        0
+    }
+}
+
+/// The smallest of 7 to 10 that some event of the log has, one of which some event has.
+fn lowest_of_events(log: &Log) -> u32 {
+    let size = log.size();
+    let mut lowest = u32::MAX;
     for (w, worker) in log.workers.iter().enumerate() {
         let mut previous = 0;
         for record in worker.events {
@@ -232,22 +288,8 @@ fn content(log: &Log) -> u32 {
             }
             previous = event.stamp;
         }
-        let mut previous = Checkpoint::default();
-        for checkpoint in worker.checkpoints() {
-            if checkpoint.index > worker.count()
-                || checkpoint.index < previous.index
-                || checkpoint.identifier <= previous.identifier
-            {
-                lowest = lowest.min(11);
-            }
-            previous = checkpoint;
-        }
     }
-    if lowest == NONE {
-        0
-    } else {
-        lowest
-    }
+    lowest
 }
 
 /// The log, or its refusal of 1 to 11.
