@@ -31,7 +31,7 @@ receive-within log w zero e = absurd (false≢true (sym (ap isReceive (event-non
 receive-within log w (suc k) e =
     ⊎-elim (λ l. absurd (false≢true (sym (ap isReceive (event-past log w (suc k) l)) ∙ e))) (λ l. (omega arith, l)) (lt-or-le (eventCount log w) (suc k))
 
-not-send : (e : Event) → isReceive e ≡ true → isSend e ≡ false
+pub not-send : (e : Event) → isReceive e ≡ true → isSend e ≡ false
 unfolding isReceive isUnlogged isLogged isSend
 not-send e r = go (eqb (e .kind) 2) refl (eqb (e .kind) 3) refl r
   where

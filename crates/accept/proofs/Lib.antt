@@ -1,5 +1,6 @@
 pub mod Accepted
 pub mod Bound
+pub mod Message
 pub mod Quick
 pub mod Stamps
 pub mod Tube

@@ -3,12 +3,14 @@
 use log::Checkpoint;
 use log::Event;
 ghost use mathlib.Core.Path.{_≡_};
-ghost use Prim.Native.Nat.{_+_, _<_};
+ghost use Prim.Native.Nat.{_+_, _<_, _≤_};
 ghost use Rattle.log.specs.Header.{layoutRefusal};
+ghost use Rattle.log.specs.Limits.{maxWorkers};
 ghost use Rattle.log.specs.Model.{eventCount, eventOf};
-ghost use Rattle.log.specs.Layout.{workersOf, logOf};
+ghost use Rattle.log.specs.Layout.{eventStart, workersOf, logOf};
 ghost use Rattle.accept.specs.Records.{kindFault, peerFault, sendFault, fieldFault, stampFault, sendOf, sourceFault, orderFault};
 ghost use Rattle.accept.specs.Records.{anyFault, eventFault, checkpointFault, recordFault, recordCount, workerFault, someRecord};
+ghost use Rattle.accept.specs.Inner.Message.{names, namedWorker, namedIndex, named, messageFault};
 ghost use Rattle.accept.specs.Refusal.{eventsRefusal, contentRefusal, logRefusal};
 
 // Whether the kind is none of 1, 2 and 3.
@@ -109,26 +111,105 @@ fn order_fault(log: &[u8], e: Event) -> bool
     e.stamp <= source.stamp
 }
 
-// Whether event k + 1 of worker w, which is e, fails one of the tests 7 to 10.
-fn any_fault(log: &[u8], w: usize, k: u32, e: Event) -> bool
-    requires { ⌜ (layoutRefusal (now log) ≡ 0) × (k < eventCount (workersOf (now log)) w) ⌝ }
-    ensures answer { λ r. ⌜ r ≡ anyFault (workersOf (now (log .entry))) w k e ⌝ }
+// 1 for an event that names another, else 0.
+fn names(e: Event) -> u32
+    ensures answer { λ r. ⌜ r ≡ names e ⌝ }
 {
-    if field_fault(log, w, e) {
-        return true;
+    if e.send == 0 {
+        return 0;
     }
-    if stamp_fault(log, w, k, e) {
-        return true;
-    }
-    if source_fault(log, w, e) {
-        return true;
-    }
-    order_fault(log, e)
+    1
 }
 
-// Test 7, 8, 9 or 10 on event k + 1 of worker w, and any of them for another number.
+// The worker of the event that an event of worker w names; w where it names none.
+fn named_worker(w: usize, e: Event) -> usize
+    ensures answer { λ r. ⌜ r ≡ namedWorker w e ⌝ }
+{
+    if e.send == 0 {
+        return w;
+    }
+    e.peer as usize
+}
+
+// The index of the event that event x names; x where it names none.
+fn named_index(x: u32, e: Event) -> u32
+    ensures answer { λ r. ⌜ r ≡ namedIndex x e ⌝ }
+{
+    if e.send == 0 {
+        return x;
+    }
+    e.send
+}
+
+// The event that event x of worker w, which is e, names; itself where it names none.
+fn named(log: &[u8], w: usize, x: u32, e: Event) -> Event
+    requires { ⌜ layoutRefusal (now log) ≡ 0 ⌝ }
+    ensures answer { λ r. ⌜ r ≡ named (workersOf (now (log .entry))) w x e ⌝ }
+{
+    log::event_at(log, named_worker(w, e), named_index(x, e))
+}
+
+// What is left of the tests 7, 9 and 10 on event x of worker w, which is e. Kinds are random in a run, so there is no branch on the kind.
+fn message_fault(log: &[u8], w: usize, x: u32, e: Event) -> bool
+    requires { ⌜ (layoutRefusal (now log) ≡ 0) × (w < maxWorkers) × (0 < e .stamp) ⌝ }
+    ensures answer { λ r. ⌜ r ≡ messageFault (workersOf (now (log .entry))) w x e ⌝ }
+{
+    let received = log::received(e);
+    if names(e) != received {
+        return true;
+    }
+    let source = named(log, w, x, e);
+    if !log::is_send(source) {
+        return true;
+    }
+    if source.peer as usize + named_worker(w, e) != w + e.peer as usize {
+        return true;
+    }
+    e.stamp - received < source.stamp
+}
+
+// Whether event k + 1 of worker w, which is e, fails one of the tests 7 to 10; `before` is the stamp of event k.
+fn any_fault(log: &[u8], w: usize, k: u32, before: u32, e: Event) -> bool
+    requires { ⌜ (layoutRefusal (now log) ≡ 0) × (k < eventCount (workersOf (now log)) w)
+        × (before ≡ eventOf (workersOf (now log)) w k .stamp) × (e ≡ eventOf (workersOf (now log)) w (k + 1)) ⌝ }
+    ensures answer { λ r. ⌜ r ≡ anyFault (workersOf (now (log .entry))) w k e ⌝ }
+{
+    if e.spare != 0 {
+        return true;
+    }
+    if kind_fault(e) {
+        return true;
+    }
+    if peer_fault(log, w, e) {
+        return true;
+    }
+    if e.stamp <= before {
+        return true;
+    }
+    message_fault(log, w, k + 1, e)
+}
+
+// Whether some event of worker w fails one of the tests 7 to 10; its section has `count` events and starts at `start`.
+fn events_fault(log: &[u8], w: usize, start: usize, count: u32) -> bool
+    requires { ⌜ (layoutRefusal (now log) ≡ 0) × (start ≡ eventStart (now log) w) × (count ≡ eventCount (workersOf (now log)) w) ⌝ }
+    ensures answer { λ r. ⌜ r ≡ workerFault 0 (workersOf (now (log .entry))) w ⌝ }
+{
+    let mut before: u32 = 0;
+    let mut k: u32 = 0;
+    while k < count {
+        let e = log::event_in(log, start, count as usize, k as usize);
+        if any_fault(log, w, k, before, e) {
+            return true;
+        }
+        before = e.stamp;
+        k += 1;
+    }
+    false
+}
+
+// Test 7, 8, 9 or 10 on event k + 1 of worker w.
 fn event_fault(log: &[u8], test: u32, w: usize, k: u32) -> bool
-    requires { ⌜ (layoutRefusal (now log) ≡ 0) × (k < eventCount (workersOf (now log)) w) ⌝ }
+    requires { ⌜ (layoutRefusal (now log) ≡ 0) × (7 ≤ test) × (test ≤ 10) × (k < eventCount (workersOf (now log)) w) ⌝ }
     ensures answer { λ r. ⌜ r ≡ eventFault test (workersOf (now (log .entry))) w k (eventOf (workersOf (now (log .entry))) w (k + 1)) ⌝ }
 {
     let e = log::event_at(log, w, k + 1);
@@ -141,10 +222,7 @@ fn event_fault(log: &[u8], test: u32, w: usize, k: u32) -> bool
     if test == 9 {
         return source_fault(log, w, e);
     }
-    if test == 10 {
-        return order_fault(log, e);
-    }
-    any_fault(log, w, k, e)
+    order_fault(log, e)
 }
 
 // Test 11 on a checkpoint of worker w and the one before it.
@@ -174,7 +252,7 @@ fn record_count(log: &[u8], test: u32, w: usize) -> u32
 
 // Test 7 to 11 on record k of worker w.
 fn record_fault(log: &[u8], test: u32, w: usize, k: u32) -> bool
-    requires { ⌜ (layoutRefusal (now log) ≡ 0) × (k < recordCount test (workersOf (now log)) w) ⌝ }
+    requires { ⌜ (layoutRefusal (now log) ≡ 0) × (7 ≤ test) × (test ≤ 11) × (k < recordCount test (workersOf (now log)) w) ⌝ }
     ensures answer { λ r. ⌜ r ≡ recordFault test (workersOf (now (log .entry))) w k ⌝ }
 {
     if test == 11 {
@@ -185,9 +263,9 @@ fn record_fault(log: &[u8], test: u32, w: usize, k: u32) -> bool
     event_fault(log, test, w, k)
 }
 
-// Whether some record of worker w has the fault of this number.
-fn worker_fault(log: &[u8], test: u32, w: usize) -> bool
-    requires { ⌜ layoutRefusal (now log) ≡ 0 ⌝ }
+// Whether some record of worker w has the fault of this number, 7 to 11.
+fn records_fault(log: &[u8], test: u32, w: usize) -> bool
+    requires { ⌜ (layoutRefusal (now log) ≡ 0) × (7 ≤ test) × (test ≤ 11) ⌝ }
     ensures answer { λ r. ⌜ r ≡ workerFault test (workersOf (now (log .entry))) w ⌝ }
 {
     let count = record_count(log, test, w);
@@ -201,9 +279,20 @@ fn worker_fault(log: &[u8], test: u32, w: usize) -> bool
     false
 }
 
+// Whether some record of worker w has the fault of this number, 7 to 11; for a number below 7, any of the faults 7 to 10.
+fn worker_fault(log: &[u8], test: u32, w: usize) -> bool
+    requires { ⌜ (layoutRefusal (now log) ≡ 0) × (test ≤ 11) ⌝ }
+    ensures answer { λ r. ⌜ r ≡ workerFault test (workersOf (now (log .entry))) w ⌝ }
+{
+    if test < 7 {
+        return events_fault(log, w, log::event_start(log, w), log::event_count(log, w));
+    }
+    records_fault(log, test, w)
+}
+
 // Whether some record of the log has the fault of this number.
 fn some_record(log: &[u8], test: u32) -> bool
-    requires { ⌜ layoutRefusal (now log) ≡ 0 ⌝ }
+    requires { ⌜ (layoutRefusal (now log) ≡ 0) × (test ≤ 11) ⌝ }
     ensures answer { λ r. ⌜ r ≡ someRecord test (workersOf (now (log .entry))) ⌝ }
 {
     let n = log::worker_count(log);

@@ -1,4 +1,5 @@
 -- `accept::event_fault` meets its contract. Assumes nothing.
+use mathlib.Core.Path.{_≡_}
 use borrow.Author.Tests.{eq-eqb, ne-eqb}
 use native.Mathlib.Omega.{arith}
 use Rattle.log.proofs.Read.{count-field}
@@ -33,19 +34,13 @@ order-fault-requires c κs = search needs
 returns-4 : tie.Need-returns-4
 unfolding eventFault
 returns-4 c =
-    let third = c .before .before in
+    let third = c .before in
     let first = third .before .before in
-    rw (ne-eqb _ _ (first .if1 .left), ne-eqb _ _ (third .before .if2 .left), ne-eqb _ _ (third .if3 .left), eq-eqb _ _ (c .before .if4 .taken), ← first .before .event-at .ensures)
+    let entry = first .before .before .before in
+    let ten : entry .args .test ≡ 10 = omega (arith, entry .pre .1, entry .pre .2, first .if1 .left, third .before .if2 .left, third .if3 .left) in
+    rw (ne-eqb _ _ (first .if1 .left), ne-eqb _ _ (third .before .if2 .left), ne-eqb _ _ (third .if3 .left), eq-eqb _ _ ten, ← first .before .event-at .ensures)
     (c .order-fault .ensures)
-
-returns-5 : tie.Need-returns-5
-unfolding eventFault
-returns-5 c =
-    let third = c .before .before in
-    let first = third .before .before in
-    rw (ne-eqb _ _ (first .if1 .left), ne-eqb _ _ (third .before .if2 .left), ne-eqb _ _ (third .if3 .left), ne-eqb _ _ (c .before .if4 .left), ← first .before .event-at .ensures)
-    (c .any-fault .ensures)
 
 pub event-fault-spec : {M : Type 1} → statement M
 event-fault-spec =
-    tie.close (tie.spec add-event-at (λ c κs. search needs) (λ c κs. search needs) returns stamp-fault-requires returns-2 (λ c κs. search needs) returns-3 order-fault-requires returns-4 (λ c κs. search needs) returns-5)
+    tie.close (tie.spec add-event-at (λ c κs. search needs) (λ c κs. search needs) returns stamp-fault-requires returns-2 (λ c κs. search needs) returns-3 order-fault-requires returns-4)

@@ -16,7 +16,9 @@ returns c = rw (eq-eqb _ _ (c .before .before .before .if1 .taken), ← c .befor
 
 event-fault-requires : tie.Need-event-fault-requires
 unfolding recordCount
-event-fault-requires c κs = (c .before .before .pre .0, rw (ne-eqb _ _ (c .if1 .left)) at (c .before .before .pre .1))
+event-fault-requires c κs =
+    let entry = c .before .before in
+    (entry .pre .0, entry .pre .1, omega (arith, entry .pre .2, c .if1 .left), rw (ne-eqb _ _ (c .if1 .left)) at (entry .pre .3))
 
 returns-2 : tie.Need-returns-2
 unfolding recordFault
