@@ -1,4 +1,5 @@
 pub mod Accepted
+pub mod Blocks
 pub mod Bound
 pub mod Message
 pub mod Quick

@@ -1,29 +1,14 @@
 -- One pass that asks for any of the tests 7 to 10: where no event fails it, none of these numbers applies. Assumes nothing.
 use mathlib.Core.Path.{_≡_, refl}
 use mathlib.Core.Bool.{false, _||_}
-use Prim.Native.Nat.{ℕ, _+_, _<_, _≤_}
-use native.Mathlib.Omega.{arith}
-use borrow.Author.Tests.{ne-eqb}
+use Prim.Native.Nat.{ℕ, _+_}
 use lib.Dec.{eqb}
-use Rattle.ranges.proofs.Any.{any-each, any-every, any-same}
+use Rattle.ranges.proofs.Any.{any-each, any-every}
 use Rattle.ranges.proofs.Bools.{or-false-left, or-false-right}
 use Rattle.log.specs.declared.Event.{Event}
-use Rattle.log.specs.Model.{Workers, workerCount, eventCount, eventOf}
+use Rattle.log.specs.Model.{Workers, workerCount, eventOf}
 use Rattle.accept.specs.Records.{fieldFault, stampFault, sourceFault, orderFault, anyFault, eventFault, recordFault, recordCount, workerFault, someRecord}
 use Rattle.accept.specs.Refusal.{eventsRefusal}
-
--- a number below 7 is that of no test here: it stands for any of 7 to 10, as 0 does
-module _ (test : ℕ) (h : test < 7) (log : Workers) (w : ℕ) where
-  other : (m : ℕ) → 7 ≤ m → eqb test m ≡ false
-  other m l = ne-eqb test m (λ e. let no : ⊥ = omega arith in no)
-
-  same : (k : ℕ) → recordFault test log w k ≡ recordFault 0 log w k
-  unfolding recordFault eventFault
-  same k = rw (other 11 (omega arith), other 7 (omega arith), other 8 (omega arith), other 9 (omega arith), other 10 (omega arith))
-
-  pub any-below : workerFault test log w ≡ workerFault 0 log w
-  unfolding workerFault recordCount
-  any-below = rw (other 11 (omega arith)) (any-same (recordFault test log w) (recordFault 0 log w) (eventCount log w) (λ k l. same k))
 
 module _ (log : Workers) (none : someRecord 0 log ≡ false) where
   -- a test on events that passes wherever the quick one does

@@ -3,14 +3,17 @@
 use log::Checkpoint;
 use log::Event;
 ghost use mathlib.Core.Path.{_≡_};
-ghost use Prim.Native.Nat.{_+_, _<_, _≤_};
+ghost use mathlib.Core.Bool.{false};
+ghost use Prim.Native.Nat.{_+_, _<_, _≤_, min};
+ghost use Rattle.ranges.specs.Fold.{maxBelow};
 ghost use Rattle.log.specs.Header.{layoutRefusal};
-ghost use Rattle.log.specs.Limits.{maxWorkers};
-ghost use Rattle.log.specs.Model.{eventCount, eventOf};
-ghost use Rattle.log.specs.Layout.{eventStart, workersOf, logOf};
+ghost use Rattle.log.specs.Limits.{maxWorkers, maxEvents};
+ghost use Rattle.log.specs.Model.{workerCount, eventCount, eventOf};
+ghost use Rattle.log.specs.Layout.{workersOf, logOf};
 ghost use Rattle.accept.specs.Records.{kindFault, peerFault, sendFault, fieldFault, stampFault, sendOf, sourceFault, orderFault};
 ghost use Rattle.accept.specs.Records.{anyFault, eventFault, checkpointFault, recordFault, recordCount, workerFault, someRecord};
 ghost use Rattle.accept.specs.Inner.Message.{names, namedWorker, namedIndex, named, messageFault};
+ghost use Rattle.accept.specs.Inner.Blocks.{blockSize, faultWithin, someWithin};
 ghost use Rattle.accept.specs.Refusal.{eventsRefusal, contentRefusal, logRefusal};
 
 // Whether the kind is none of 1, 2 and 3.
@@ -189,20 +192,90 @@ fn any_fault(log: &[u8], w: usize, k: u32, before: u32, e: Event) -> bool
     message_fault(log, w, k + 1, e)
 }
 
-// Whether some event of worker w fails one of the tests 7 to 10; its section has `count` events and starts at `start`.
-fn events_fault(log: &[u8], w: usize, start: usize, count: u32) -> bool
-    requires { ⌜ (layoutRefusal (now log) ≡ 0) × (start ≡ eventStart (now log) w) × (count ≡ eventCount (workersOf (now log)) w) ⌝ }
-    ensures answer { λ r. ⌜ r ≡ workerFault 0 (workersOf (now (log .entry))) w ⌝ }
+// The events of each worker that the pass for any fault takes in turn. What a receive names was sent shortly before it, in a block that was
+// just read.
+const BLOCK: u32 = 256;
+
+// Where the block of events from `first` on ends, of `count` events.
+fn block_end(first: u32, count: u32) -> u32
+    requires { ⌜ first ≤ maxEvents ⌝ }
+    ensures answer { λ r. ⌜ r ≡ min (first + blockSize) count ⌝ }
 {
-    let mut before: u32 = 0;
-    let mut k: u32 = 0;
-    while k < count {
+    let end = first + BLOCK;
+    if count < end {
+        return count;
+    }
+    end
+}
+
+// Whether an event of worker w, up to the end of the block from `first` on, fails one of the tests 7 to 10. None before `first` does.
+fn events_fault(log: &[u8], w: usize, first: u32) -> bool
+    requires { ⌜ (layoutRefusal (now log) ≡ 0) × (first ≤ maxEvents) × (faultWithin first (workersOf (now log)) w ≡ false) ⌝ }
+    ensures answer { λ r. ⌜ r ≡ faultWithin (first + blockSize) (workersOf (now (log .entry))) w ⌝ }
+{
+    let start = log::event_start(log, w);
+    let count = log::event_count(log, w);
+    if count <= first {
+        return false;
+    }
+    let end = block_end(first, count);
+    let mut before = log::event_at(log, w, first).stamp;
+    let mut k = first;
+    while k < end {
         let e = log::event_in(log, start, count as usize, k as usize);
         if any_fault(log, w, k, before, e) {
             return true;
         }
         before = e.stamp;
         k += 1;
+    }
+    false
+}
+
+// The same for the block of every worker.
+fn block_fault(log: &[u8], first: u32) -> bool
+    requires { ⌜ (layoutRefusal (now log) ≡ 0) × (first ≤ maxEvents) × (someWithin first (workersOf (now log)) ≡ false) ⌝ }
+    ensures answer { λ r. ⌜ r ≡ someWithin (first + blockSize) (workersOf (now (log .entry))) ⌝ }
+{
+    let n = log::worker_count(log);
+    let mut w: usize = 0;
+    while w < n {
+        if events_fault(log, w, first) {
+            return true;
+        }
+        w += 1;
+    }
+    false
+}
+
+// The largest event count of a worker.
+fn most_events(log: &[u8]) -> u32
+    requires { ⌜ layoutRefusal (now log) ≡ 0 ⌝ }
+    ensures answer { λ r. ⌜ r ≡ maxBelow (eventCount (workersOf (now (log .entry)))) (workerCount (workersOf (now (log .entry)))) ⌝ }
+    ensures few { λ r. ⌜ r ≤ maxEvents ⌝ }
+{
+    let n = log::worker_count(log);
+    let mut most: u32 = 0;
+    let mut w: usize = 0;
+    while w < n {
+        most = ranges::larger(most, log::event_count(log, w));
+        w += 1;
+    }
+    most
+}
+
+// Whether some event of the log fails one of the tests 7 to 10, in one pass.
+fn some_event(log: &[u8]) -> bool
+    requires { ⌜ layoutRefusal (now log) ≡ 0 ⌝ }
+    ensures answer { λ r. ⌜ r ≡ someRecord 0 (workersOf (now (log .entry))) ⌝ }
+{
+    let most = most_events(log);
+    let mut first: u32 = 0;
+    while first < most {
+        if block_fault(log, first) {
+            return true;
+        }
+        first += BLOCK;
     }
     false
 }
@@ -264,7 +337,7 @@ fn record_fault(log: &[u8], test: u32, w: usize, k: u32) -> bool
 }
 
 // Whether some record of worker w has the fault of this number, 7 to 11.
-fn records_fault(log: &[u8], test: u32, w: usize) -> bool
+fn worker_fault(log: &[u8], test: u32, w: usize) -> bool
     requires { ⌜ (layoutRefusal (now log) ≡ 0) × (7 ≤ test) × (test ≤ 11) ⌝ }
     ensures answer { λ r. ⌜ r ≡ workerFault test (workersOf (now (log .entry))) w ⌝ }
 {
@@ -279,20 +352,9 @@ fn records_fault(log: &[u8], test: u32, w: usize) -> bool
     false
 }
 
-// Whether some record of worker w has the fault of this number, 7 to 11; for a number below 7, any of the faults 7 to 10.
-fn worker_fault(log: &[u8], test: u32, w: usize) -> bool
-    requires { ⌜ (layoutRefusal (now log) ≡ 0) × (test ≤ 11) ⌝ }
-    ensures answer { λ r. ⌜ r ≡ workerFault test (workersOf (now (log .entry))) w ⌝ }
-{
-    if test < 7 {
-        return events_fault(log, w, log::event_start(log, w), log::event_count(log, w));
-    }
-    records_fault(log, test, w)
-}
-
-// Whether some record of the log has the fault of this number.
+// Whether some record of the log has the fault of this number, 7 to 11.
 fn some_record(log: &[u8], test: u32) -> bool
-    requires { ⌜ (layoutRefusal (now log) ≡ 0) × (test ≤ 11) ⌝ }
+    requires { ⌜ (layoutRefusal (now log) ≡ 0) × (7 ≤ test) × (test ≤ 11) ⌝ }
     ensures answer { λ r. ⌜ r ≡ someRecord test (workersOf (now (log .entry))) ⌝ }
 {
     let n = log::worker_count(log);
@@ -306,15 +368,12 @@ fn some_record(log: &[u8], test: u32) -> bool
     false
 }
 
-// The number of no test: for all events one pass asks whether any test fails.
-const ANY: u32 = 0;
-
 // Tests 7 to 10: the number of the first that fails, or 0.
 fn events_refusal(log: &[u8]) -> u32
     requires { ⌜ layoutRefusal (now log) ≡ 0 ⌝ }
     ensures answer { λ r. ⌜ r ≡ eventsRefusal (workersOf (now (log .entry))) ⌝ }
 {
-    if !some_record(log, ANY) {
+    if !some_event(log) {
         return 0;
     }
     if some_record(log, 7) {

@@ -21,7 +21,7 @@ namedIndex x e = cond (eqb (e .send) 0) x (e .send)
 unfoldable pub named : Workers → ℕ → ℕ → Event → Event
 named log w x e = eventOf log (namedWorker w e) (namedIndex x e)
 
--- event x of worker w names an event exactly when it is a receive, and what it names is a send to w with a smaller stamp
+-- event x of worker w names an event and is no receive, or is one and names none; or what it names is no send, none to w or none before it
 unfoldable pub messageFault : Workers → ℕ → ℕ → Event → Bool
 messageFault log w x e =
     not (eqb (names e) (received e))
