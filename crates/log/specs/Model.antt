@@ -80,3 +80,7 @@ received e = cond (isReceive e) 1 0
 -- "(send, receive without data, receive with data)": the columns of the table of units, from 0
 unfoldable pub column : Event → ℕ
 column e = e .kind - 1
+
+-- the send that a receive without its data names, and a number for any other event
+unfoldable pub unloggedSend : Event → ℕ → ℕ
+unloggedSend e otherwise = cond (isUnlogged e) (e .send) otherwise

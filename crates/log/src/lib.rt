@@ -4,7 +4,7 @@ ghost use mathlib.Core.Path.{_≡_};
 ghost use Prim.Native.Nat.{_+_, _*_, _<_, _≤_};
 ghost use lib.ListN.{length};
 ghost use Rattle.log.specs.Limits.{maxWorkers, maxEvents, maxCheckpoints, maxRole};
-ghost use Rattle.log.specs.Model.{workerCount, eventCount, eventOf, checkpointCount, checkpointOf, roleOf, isSend, isUnlogged, isReceive, received, column};
+ghost use Rattle.log.specs.Model.{workerCount, eventCount, eventOf, checkpointCount, checkpointOf, roleOf, isSend, isUnlogged, isReceive, received, column, unloggedSend};
 ghost use Rattle.log.specs.Layout.{formField, sizeField, lengthField, headerOf, field, entryOrZero, section, eventStart, eventRecord, checkpointRecord, workersOf};
 ghost use Rattle.log.specs.Header.{limitFault, outside, sectionFault, entryFault, someEntry, entriesRefusal, layoutRefusal};
 
@@ -417,4 +417,17 @@ pub fn column(e: Event) -> u32
     ensures answer { λ r. ⌜ r ≡ column e ⌝ }
 {
     e.kind as u32 - 1
+}
+
+// A number above every index, for `unlogged_send`.
+pub const NO_SEND: u32 = 4294967295;
+
+// The send that a receive without its data names, and `otherwise` for any other event: one comparison then serves every kind.
+pub fn unlogged_send(e: Event, otherwise: u32) -> u32
+    ensures answer { λ r. ⌜ r ≡ unloggedSend e otherwise ⌝ }
+{
+    if is_unlogged(e) {
+        return e.send;
+    }
+    otherwise
 }

@@ -2,8 +2,10 @@
 
 pub mod list;
 
+use log::Event;
 ghost use mathlib.Core.Path.{_≡_};
-ghost use Prim.Native.Nat.{_+_, _*_, _<_, _≤_};
+ghost use mathlib.Core.List.{List};
+ghost use Prim.Native.Nat.{ℕ, _+_, _*_, _<_, _≤_};
 ghost use lib.ListN.{length};
 ghost use Rattle.ranges.specs.Fold.{anyBelow};
 ghost use Rattle.lent.specs.Lent.{at};
@@ -11,6 +13,8 @@ ghost use Rattle.log.specs.Layout.{workersOf};
 ghost use Rattle.log.specs.Limits.{maxEvents};
 ghost use Rattle.log.specs.Model.{workerCount};
 ghost use Rattle.accept.specs.Refusal.{logRefusal, given};
+ghost use Rattle.cost.specs.Words.{startIn};
+ghost use Rattle.replay.specs.Machine.{eventAnswer};
 ghost use Rattle.replay.specs.Calls.{disordered, stateRefusal, stepRefusal, machineAnswer, machineMoved, stepAnswer, stepAfter};
 ghost use Rattle.replay.specs.Inner.State.{IsState};
 
@@ -76,6 +80,21 @@ fn step_refusal(log: &[u8], words: &[u32], positions: &[u32], worker: u32) -> u3
     )
 }
 
+// The answer of a step to event e. The two comparisons are made for every kind: 0 is not awaited, and no start is as high as NO_SEND.
+fn event_answer(words: &[u32], positions: &[u32], e: Event) -> u32
+    requires { ⌜ (e .peer < length (now positions)) × (3 * e .peer + 3 ≤ length (now words)) × (startIn (now words) (e .peer) ≤ maxEvents) ⌝ }
+    ensures answer { λ r. ⌜ ((starts : List ℕ) → at starts (e .peer) ≡ startIn (now (words .entry)) (e .peer) → r ≡ eventAnswer starts (now (positions .entry)) e) ⌝ }
+{
+    let peer = e.peer as usize;
+    if positions[peer] < log::unlogged_send(e, 0) {
+        return 22;
+    }
+    if log::unlogged_send(e, log::NO_SEND) <= words[3 * peer + 1] {
+        return 23;
+    }
+    0
+}
+
 // The answer of a step of worker w that is not refused by 1 to 11, 14 or 16.
 fn answer(log: &[u8], words: &[u32], positions: &[u32], w: usize) -> u32
     requires { ⌜ (logRefusal (now log) ≡ 0) × IsState (workersOf (now log)) (now words) (now positions) ⌝ }
@@ -88,18 +107,7 @@ fn answer(log: &[u8], words: &[u32], positions: &[u32], w: usize) -> u32
     if words[3 * w] <= position {
         return 21;
     }
-    let e = log::event_at(log, w, position + 1);
-    if !log::is_unlogged(e) {
-        return 0;
-    }
-    let peer = e.peer as usize;
-    if positions[peer] < e.send {
-        return 22;
-    }
-    if e.send <= words[3 * peer + 1] {
-        return 23;
-    }
-    0
+    event_answer(words, positions, log::event_at(log, w, position + 1))
 }
 
 // The position of worker w after a done step from a position at or after its start.

@@ -19,7 +19,7 @@ use Rattle.ranges.proofs.Tabulate.{length-tabulate, getD-tabulate-past}
 use Rattle.log.specs.declared.Event.{Event}
 use Rattle.log.specs.declared.Checkpoint.{Checkpoint}
 use Rattle.log.specs.Limits.{maxEvents}
-use Rattle.log.specs.Model.{Workers, workerCount, eventOf, checkpointCount, checkpointOf, isUnlogged}
+use Rattle.log.specs.Model.{Workers, workerCount, eventOf, checkpointCount, checkpointOf, isUnlogged, unloggedSend}
 use Rattle.log.proofs.Read.{worker-within, count-past}
 use Rattle.log.specs.Layout.{workersOf}
 use Rattle.accept.specs.Refusal.{logRefusal}
@@ -31,7 +31,7 @@ use Rattle.causality.specs.Cut.{IsCut}
 use Rattle.restore.specs.Choice.{mayChoose, IsChoice, startsOf, Startable}
 use Rattle.restore.specs.Plan.{identifierOf, identifierAt}
 use Rattle.cost.specs.Words.{startIn, cutsIn, startsIn}
-use Rattle.restore.specs.Inner.Rollback.{numberIn, numberBelow, placed, unloggedSend, resent, pending, RollingBack, Looked, Settled}
+use Rattle.restore.specs.Inner.Rollback.{numberIn, numberBelow, placed, resent, pending, RollingBack, Looked, Settled}
 use Rattle.restore.proofs.Choosable.{may-recorded}
 use Rattle.restore.proofs.Startable.{starts-at, unlogged-receive}
 use Rattle.restore.proofs.Chosen.{IndexOffered, choice-starts, identifier-last}
@@ -252,7 +252,7 @@ peer-wide s w x wide e accepted long is q =
     omega arith
 
 -- the comparison of a start with an event's send, or with the number that stands for none
-pub compared-above : (e : Event) (start : ℕ) → start < unloggedSend e → (isUnlogged e && leb (e .send) start) ≡ false
+pub compared-above : (e : Event) (start : ℕ) → start < unloggedSend e 4294967295 → (isUnlogged e && leb (e .send) start) ≡ false
 unfolding unloggedSend
 compared-above e start = go (isUnlogged e)
   where
@@ -260,7 +260,7 @@ compared-above e start = go (isUnlogged e)
     go true l = lt-leb (e .send) start l
     go false l = refl
 
-pub compared-below : (e : Event) (start : ℕ) → start ≤ maxEvents → unloggedSend e ≤ start → (isUnlogged e && leb (e .send) start) ≡ true
+pub compared-below : (e : Event) (start : ℕ) → start ≤ maxEvents → unloggedSend e 4294967295 ≤ start → (isUnlogged e && leb (e .send) start) ≡ true
 unfolding unloggedSend
 compared-below e start few = go (isUnlogged e)
   where

@@ -3,7 +3,6 @@
 use crate::choice::may_choose;
 use cost::cut_in;
 use cost::start_in;
-use log::Event;
 ghost use mathlib.Core.Path.{_≡_};
 ghost use Prim.Native.Nat.{ℕ, _+_, _*_, _<_, _≤_};
 ghost use lib.ListN.{length};
@@ -17,7 +16,7 @@ ghost use Rattle.causality.specs.Happened.{IsEvent};
 ghost use Rattle.causality.specs.Cut.{IsCut};
 ghost use Rattle.restore.specs.Plan.{planWords};
 ghost use Rattle.cost.specs.Words.{startIn, cutsIn};
-ghost use Rattle.restore.specs.Inner.Rollback.{numberIn, mayStartBelow, numberBelow, placed, unloggedSend, resent, pending, RollingBack, Looked, Settled, finished};
+ghost use Rattle.restore.specs.Inner.Rollback.{numberIn, mayStartBelow, numberBelow, placed, resent, pending, RollingBack, Looked, Settled, finished};
 
 // The number of worker w's checkpoint, which its third word holds while workers are rolled back.
 fn number_in(words: &[u32], w: usize) -> u32
@@ -82,17 +81,6 @@ fn begin(log: &[u8], words: &mut [u32], looked: &mut [u32])
     }
 }
 
-// The send that a receive without its data names, and a number above every index where the event is no such receive: one comparison
-// then looks at an event, whatever its kind.
-fn unlogged_send(e: Event) -> u32
-    ensures answer { λ r. ⌜ r ≡ unloggedSend e ⌝ }
-{
-    if log::is_unlogged(e) {
-        return e.send;
-    }
-    4294967295
-}
-
 // Looks at event x of worker w: the sender of a receive without its data starts below the send.
 fn resend(log: &[u8], words: &mut [u32], w: usize, x: u32)
     requires { ⌜ (logRefusal (now log) ≡ 0) × (length (now words) ≡ 3 * workerCount (workersOf (now log))) × IsEvent (workersOf (now log)) w x
@@ -102,7 +90,7 @@ fn resend(log: &[u8], words: &mut [u32], w: usize, x: u32)
 {
     let e = log::event_at(log, w, x);
     let p = e.peer as usize;
-    if start_in(words, p) < unlogged_send(e) {
+    if start_in(words, p) < log::unlogged_send(e, log::NO_SEND) {
         return;
     }
     let c = number_below(log, p, number_in(words, p), e.send);

@@ -31,10 +31,6 @@ numberBelow log w bound c = lastBelow (mayStartBelow log w bound) (λ d. d) (c +
 unfoldable pub placed : Workers → List ℕ → ℕ → ℕ → List ℕ
 placed log words w c = set (set words (3 * w + 1) (checkpointOf log w c .index)) (3 * w + 2) c
 
--- the send that a kind 2 receive names, and a number above every index for any other event
-unfoldable pub unloggedSend : Event → ℕ
-unloggedSend e = cond (isUnlogged e) (e .send) 4294967295
-
 -- the words after event e is looked at: the sender of a kind 2 receive starts below the send
 unfoldable pub resent : Workers → Event → List ℕ → List ℕ
 resent log e words =

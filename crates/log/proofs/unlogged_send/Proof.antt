@@ -1,8 +1,8 @@
--- `restore::starts::unlogged_send` meets its contract. Assumes nothing.
-use Rattle.restore.specs.Inner.Rollback.{unloggedSend}
+-- `log::unlogged_send` meets its contract. Assumes nothing.
+use Rattle.log.specs.Model.{unloggedSend}
 use borrow.Author.Needs.{needs}
-use Rattle.restore.proofs.starts.unlogged_send.Statement.{statement}
-use Rattle.restore.proofs.starts.unlogged_send.Tie as tie
+use Rattle.log.proofs.unlogged_send.Statement.{statement}
+use Rattle.log.proofs.unlogged_send.Tie as tie
 
 returns : tie.Need-returns
 unfolding unloggedSend

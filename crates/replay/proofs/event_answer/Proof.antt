@@ -1,0 +1,41 @@
+-- `replay::event_answer` meets its contract. Assumes nothing.
+use mathlib.Core.Path.{sym}
+use Rattle.cost.specs.Words.{startIn}
+use Rattle.replay.proofs.Compared.{compared-waits, compared-lost, compared-done}
+use borrow.Author.Needs.{needs}
+use Rattle.replay.proofs.event_answer.Statement.{statement}
+use Rattle.replay.proofs.event_answer.Tie as tie
+
+returns : tie.Need-returns
+returns c starts same = sym (compared-waits starts _ _ (rw (c .before .unlogged-send .ensures) at (c .if1 .taken)))
+
+returns-2 : tie.Need-returns-2
+unfolding startIn
+returns-2 c starts same =
+    let come = rw (c .before .before .before .before .unlogged-send .ensures) at (c .before .before .before .if1 .left) in
+    let low = rw (c .before .before .unlogged-send2 .ensures, ← same) at (c .if2 .taken) in
+    sym (compared-lost starts _ _ come low (rw same (c .before .before .before .before .before .before .before .before .before .pre .2)))
+
+returns-3 : tie.Need-returns-3
+unfolding startIn
+returns-3 c starts same =
+    let come = rw (c .before .before .before .before .unlogged-send .ensures) at (c .before .before .before .if1 .left) in
+    let above = rw (c .before .before .unlogged-send2 .ensures, ← same) at (c .if2 .left) in
+    sym (compared-done starts _ _ come above)
+
+pub event-answer-spec : {M : Type 1} → statement M
+event-answer-spec =
+    tie.close
+    (tie.spec
+    (λ c. search needs)
+    (λ c. search needs)
+    (λ c. search needs)
+    (λ c κs. search needs)
+    returns
+    (λ c κs. search needs)
+    (λ c. search needs)
+    (λ c. search needs)
+    (λ c. search needs)
+    (λ c. search needs)
+    returns-2
+    returns-3)
