@@ -1,120 +1,120 @@
-"""What the program `cases` must print for a case, from reference.py."""
+"""What the program `cases` must print for a case, from reference.py. Each line begins with the case's name.
+
+The calls are made in 10 ways to lend words. In way k, 0 to 4, one word too few is lent of kind k, and just enough of the
+others: words of a cut, a line or a plan; scratch; positions; answers; totals. In ways 5 to 7 it is just enough of each
+kind, in way 8 it is 8 more than needed, and in way 9 one too few. A line has the call, the way, what the call returned and the words that it
+left, up to the last one that does not hold its filler:
+
+    NAME log way 0 returns ..       the refusal of the log, then the words of the case (`state`)
+    NAME vector, upper_line, lower_cut, plan, covers, cut_test     `covers` has the identifier way - 1
+    NAME restore, positions, replay after `restore_and_replay`: plan words, positions, and each step's answer and positions
+    NAME steps, positions           the answers of a list, and the positions after it
+    NAME scratch                    after a refused lower_cut, plan or restore_and_replay
+    NAME totals                     after each of these
+    NAME step way ..                the answer of a step of worker 0, and its position after it; in way 9 of no worker
+    NAME by ..                      for each word of the case, changed by that much: the cut test, its answer, a step of
+                                    the first worker and its position, a step of the last one and its position
+    NAME list ..                    for each step of a list its answer, and its worker's position after it
+"""
 
 import struct
 
 import reference
 
-# The words that the program looks at after a call: of a vector, cut, line or positions, of a plan, and of the scratch.
-LENT = 72
-PLAN_LENT = 200
-ROOM = 4104
+# The words of each kind that there are, and the totals; what each total holds before a call.
+WORDS = 64 * 64 + 8
+TOTALS = 5
+UNTOUCHED = 999
 
-# The numbers of the longest list, the answers looked at, the calls of a list with a plan, and the words of them looked at.
-NUMBERS = 528
-ANSWERS = NUMBERS + 8
+# The kinds of words, and the ways with 8 more than needed and with one too few of each kind.
+CUT, SCRATCH, POSITIONS, ANSWERS, TOTAL = range(5)
+MORE = 8
+FEW = 9
+WAYS = range(FEW + 1)
+
+# The numbers of the longest list, and the calls of a list that is lent with a plan.
+LIST = 8 * (64 + 2)
 CALLS = 32
-STEPS = CALLS * 65 + 8
 
-# The identifiers that are tested for a covering set.
+# The sums by which a word is changed, and the identifiers that are tested for a covering set.
+CHANGES = (1, 65536, 4294967295)
 IDENTIFIERS = (0, 1, 2, 3, 4294967295)
 
-
-def filler(k):
-    """What word k holds before a call."""
-    return 3000000000 + k % 65536
-
-
-def fillers(count):
-    return [filler(k) for k in range(count)]
-
-
-def one_less(n):
-    return max(n - 1, 0)
+# What each word holds before a call: a number over every event count.
+FILLERS = [900000 + k for k in range(WORDS)]
 
 
 def size(log):
-    """The number of workers; 0 where the log is refused."""
-    return 0 if reference.refusal(log) else reference.read(log).n
+    """The number of workers; 1 where the log is refused."""
+    return 1 if reference.refusal(log) else reference.read(log).n
 
 
-def after_call(number, n, words, most=LENT):
-    """The end of a call's line: on success its n words, then whether the others of the words looked at are unchanged."""
-    named = 0 if number else n
-    looked_at = list(words) + fillers(most)[len(words):]
-    unchanged = looked_at[named:] == fillers(most)[named:]
-    shown = "".join(" %d" % word for word in looked_at[:named])
-    return " refusal %d words%s others %s\n" % (number, shown, "unchanged" if unchanged else "changed")
+def lent(needed, kind, way):
+    """How many words of a kind are lent."""
+    return needed - 1 if way in (kind, FEW) else needed + 8 if way == MORE else needed
 
 
-def line_of(name, call, case, n, lent):
-    """A vector or an upper line with this many words lent."""
-    number, words = call(*case, fillers(lent))
-    return "%s lent %d" % (name, lent) + after_call(number, n, words)
+def numbers(words):
+    return "".join(" %d" % word for word in words)
 
 
-def lower_cut_line(case, n, lent, room):
-    number, visits, workers, words = reference.lower_cut_call(*case, fillers(lent), room)
-    line = "lower cut lent %d scratch lent %d visits %d workers %d" % (lent, room, visits, workers)
-    return line + (" scratch unchanged" if number else "") + after_call(number, n, words)
+def line(call, way, number, words):
+    """The line of a call that leaves these words."""
+    end = max((k + 1 for k, word in enumerate(words) if word != FILLERS[k]), default=0)
+    return "%s way %d returns %d%s\n" % (call, way, number, numbers(words[:end]))
 
 
-def test_of(log, words):
-    number, yes = reference.cut_test_call(log, words)
-    return " %d %s" % (number, "yes" if yes else "no")
+def totals_line(totals):
+    return "totals" + numbers(list(totals) + [UNTOUCHED] * (TOTALS - len(totals))) + "\n"
 
 
-def tests_changed(log, words, n, by):
-    """The test with each word in turn changed by a sum that wraps."""
-    shown = ""
-    for w in range(n):
-        changed = list(words)
-        changed[w] = (words[w] + by) % 2 ** 32
-        shown += test_of(log, changed)
-    return shown + "\n"
+def scratch_line(way, number):
+    """After a refusal the scratch holds its fillers; after a success it is free."""
+    return line("scratch", way, number, []) if number else ""
 
 
-def causality_lines(case, n):
-    log = case[0]
-    text = ""
-    for call_name, call in (("vector", reference.vector_call), ("upper line", reference.upper_line_call)):
-        for lent in (LENT, n, one_less(n)):
-            text += line_of(call_name, call, case, n, lent)
-    short_room = one_less(n * n)
-    for lent, room in ((LENT, ROOM), (n, n * n), (n, short_room), (one_less(n), short_room)):
-        text += lower_cut_line(case, n, lent, room)
-    cut = reference.lower_cut_call(*case, fillers(LENT), ROOM)[3]
-    text += "cut test" + test_of(log, cut) + "\n"
-    text += "just enough words" + test_of(log, cut[:n]) + "\n"
-    text += "one word too few" + test_of(log, cut[:one_less(n)]) + "\n"
-    text += "one less" + tests_changed(log, cut, n, -1)
-    text += "one more" + tests_changed(log, cut, n, 1)
-    return text
+# ---- The words of a case
 
 
-def plan_line(case, n, lent, room):
-    number, visits, events, units, workers, words = reference.plan_call(*case, fillers(lent), room)
-    line = "plan lent %d scratch lent %d visits %d events %d units %d workers %d" % (
-        lent, room, visits, events, units, workers)
-    return line + (" scratch unchanged" if number else "") + after_call(number, 3 * n, words, PLAN_LENT)
+def state(case, n):
+    """The lower cut, the plan, and the positions at the planned starts; fillers where the case is refused."""
+    number, _, _, _, _, plan = reference.plan_call(*case, FILLERS[n:4 * n], WORDS)
+    cut = plan[0::3] if number else reference.lower_cut_call(*case, FILLERS[:n], WORDS)[3]
+    return cut + plan + plan[1::3]
 
 
-def covers_line(log, identifier):
-    number, yes = reference.covers_call(log, identifier)
-    return "covers %d refusal %d %s\n" % (identifier, number, "yes" if yes else "no")
+def others_lost(words, n, w):
+    """The words with the start and the position of every worker but w at its cut."""
+    words = list(words)
+    for v in range(n):
+        if v != w:
+            words[n + 3 * v + 1] = words[4 * n + v] = words[n + 3 * v]
+    return words
 
 
-def restore_lines(case, n):
-    short_room = one_less(n * n)
-    text = ""
-    for lent, room in ((PLAN_LENT, ROOM), (3 * n, n * n), (3 * n, short_room), (one_less(3 * n), short_room)):
-        text += plan_line(case, n, lent, room)
-    return text + "".join(covers_line(case[0], identifier) for identifier in IDENTIFIERS)
+# ---- The calls in each way
 
 
-def begun(case, n):
-    """Refusal, plan words, and the positions: the planned starts, then fillers."""
-    number, _, _, _, _, plan = reference.plan_call(*case, fillers(PLAN_LENT), ROOM)
-    return number, plan, plan[1:3 * n:3] + fillers(LENT)[n:]
+def line_of(name, call, case, n, way):
+    """A vector or an upper line."""
+    return line(name, way, *call(*case, FILLERS[:lent(n, CUT, way)]))
+
+
+def lower_cut_lines(case, n, way):
+    number, visits, workers, words = reference.lower_cut_call(
+        *case, FILLERS[:lent(n, CUT, way)], lent(n * n, SCRATCH, way))
+    totals = [] if number else [visits, workers]
+    return line("lower_cut", way, number, words) + scratch_line(way, number) + totals_line(totals)
+
+
+def plan_lines(case, n, way):
+    number, *found, words = reference.plan_call(*case, FILLERS[:lent(3 * n, CUT, way)], lent(n * n, SCRATCH, way))
+    return line("plan", way, number, words) + scratch_line(way, number) + totals_line([] if number else found)
+
+
+def test_line(name, way, number, yes):
+    """A test's answer is one word; a refused one leaves it."""
+    return line(name, way, number, [] if number else [int(yes)])
 
 
 def worker_numbers(pattern, n, count):
@@ -122,112 +122,96 @@ def worker_numbers(pattern, n, count):
     places = range(count)
     turns = (
         [k for k in places],
-        [NUMBERS - k for k in places],
+        [LIST - k for k in places],
         [k + k // 8 for k in places],
         [k // 8 for k in places],
     )[pattern]
     return [turn % (n + 2) if turn % (n + 2) <= n else 4294967295 for turn in turns]
 
 
-def list_line(case, n, pattern):
-    _, plan, positions = begun(case, n)
-    results = reference.step_calls(case[0], plan, positions, worker_numbers(pattern, n, 8 * (n + 2)))
-    answers = "".join(" %d" % answer for answer, _ in results)
-    return "list %d answers%s" % (pattern, answers) + positions_after(n, results[-1][1])
+def restore_lines(case, n, way):
+    number, totals, plan, positions, steps = reference.restore_and_replay_call(
+        *case,
+        worker_numbers(way % 4, n, CALLS),
+        FILLERS[:lent(3 * n, CUT, way)],
+        lent(n * n, SCRATCH, way),
+        FILLERS[:lent(n, POSITIONS, way)],
+        FILLERS[:lent(CALLS * (n + 1), ANSWERS, way)],
+        [UNTOUCHED] * lent(4, TOTAL, way),
+    )
+    text = line("restore", way, number, plan) + line("positions", way, number, positions)
+    text += line("replay", way, number, steps) + scratch_line(way, number)
+    return text + totals_line(totals[:TOTALS])
 
 
-def steps_line(case, n, pattern, lent):
-    """The list in one call, with words for this many answers."""
-    _, plan, positions = begun(case, n)
-    workers = worker_numbers(pattern, n, 8 * (n + 2))
-    number, after, answers = reference.steps_call(case[0], plan, positions, workers, fillers(lent))
-    line = "steps of list %d answers lent %d" % (pattern, lent) + after_call(number, len(workers), answers, ANSWERS)
-    return line + "positions" + positions_after(n, after)
+def step_text(log, plan, positions, n, worker):
+    """The answer of a step, the position of its worker after it, or the word after the positions; and the positions after it."""
+    answer, after = reference.step_call(log, plan, positions, worker)
+    shown = after[worker] if worker < n else FILLERS[5 * n]
+    return " %d %d" % (answer, shown), after
 
 
-def restore_line(case, n, pattern, lent):
-    """The plan with a list of step calls. lent has the numbers of plan words, scratch, positions, steps and totals."""
-    words, scratch, positions, steps, totals = lent
-    number, found, plan, after, left = reference.restore_and_replay_call(
-        *case, worker_numbers(pattern, n, CALLS), fillers(words), scratch, fillers(positions), fillers(steps), [0] * totals)
-    line = "restore and replay %d lent %d %d %d %d %d" % (pattern, *lent)
-    line += " visits %d events %d units %d workers %d" % tuple((found + [0])[:4])
-    line += (" scratch unchanged" if number else "") + after_call(number, 3 * n, plan, PLAN_LENT)
-    for name, count, now, most in (("positions", n, after, LENT), ("steps", CALLS * (n + 1), left, STEPS)):
-        line += name + after_call(number, count, now, most)[len(" refusal %d" % number):]
-    return line
+def lent_words(words, n, way):
+    """The plan words and the positions that are lent of the words of a case."""
+    words = words + FILLERS[5 * n:]
+    return words[n:][:lent(3 * n, CUT, way)], words[4 * n:][:lent(n, POSITIONS, way)]
 
 
-def replayed_lines(case, n):
-    """Each list, with more words than needed or just enough; then with one word too few of each kind."""
-    needed = [3 * n, n * n, n, CALLS * (n + 1), 4]
-    text = restore_line(case, n, 0, (PLAN_LENT, ROOM, LENT, STEPS, 4))
-    text += "".join(restore_line(case, n, pattern, needed) for pattern in (1, 2, 3))
-    for kind in range(5):
-        text += restore_line(case, n, 0, needed[:kind] + [one_less(needed[kind])] + needed[kind + 1:])
-    return text
+def step_line(log, words, n, way):
+    plan, positions = lent_words(words, n, way)
+    worker = 4294967295 if way == FEW else 0
+    answer, after = reference.step_call(log, plan, positions, worker)
+    after = after + (words + FILLERS[5 * n:])[4 * n + len(after):]
+    return "step way %d %d %d\n" % (way, answer, after[min(worker, n)])
 
 
-def positions_after(n, positions):
-    """The n positions after a call, and whether the words past them are unchanged."""
-    return after_call(0, n, positions)[len(" refusal 0"):]
+def steps_lines(log, words, n, way):
+    plan, positions = lent_words(words, n, way)
+    workers = worker_numbers(way % 4, n, 8 * (n + 2))
+    number, after, answers = reference.steps_call(
+        log, plan, positions, workers, FILLERS[:lent(len(workers), ANSWERS, way)])
+    positions = (after + words[4 * n:][len(after):])[:n]
+    return line("steps", way, number, answers) + "positions way %d returns %d%s\n" % (way, number, numbers(positions))
 
 
-def step_shown(log, plan, positions, w):
-    """The answer of a step of worker w, and the position of w after it."""
-    answer, after = reference.step_call(log, plan, positions, w)
-    return " %d %d" % (answer, after[w])
+def way_lines(case, words, n, way):
+    log = case[0]
+    text = line_of("vector", reference.vector_call, case, n, way)
+    text += line_of("upper_line", reference.upper_line_call, case, n, way)
+    text += lower_cut_lines(case, n, way) + plan_lines(case, n, way)
+    text += test_line("covers", way, *reference.covers_call(log, (way - 1) % 2 ** 32))
+    text += restore_lines(case, n, way)
+    text += test_line("cut_test", way, *reference.cut_test_call(log, words[:lent(n, CUT, way)]))
+    return text + step_line(log, words, n, way) + steps_lines(log, words, n, way)
 
 
-def each_changed(words, count, by):
-    """The words with each of the first ones in turn changed by a sum that wraps."""
-    for k in range(count):
-        yield words[:k] + [(words[k] + by) % 2 ** 32] + words[k + 1:]
+# ---- Changed words, and lists of steps
 
 
-def changed_line(case, n, by, w):
-    _, plan, positions = begun(case, n)
-    text = "changed by %d step of %d plan words" % (by, w)
-    text += "".join(step_shown(case[0], words, positions, w) for words in each_changed(plan, 3 * n, by))
-    text += " positions"
-    text += "".join(step_shown(case[0], plan, words, w) for words in each_changed(positions, n, by))
+def changed_line(log, words, n, by):
+    text = "by %d" % by
+    for k in range(5 * n):
+        changed = words[:k] + [(words[k] + by) % 2 ** 32] + words[k + 1:]
+        number, yes = reference.cut_test_call(log, changed)
+        text += ", %d %d" % (number, FILLERS[0] if number else yes)
+        for worker in (0, n - 1):
+            text += step_text(log, *lent_words(changed, n, MORE), n, worker)[0]
     return text + "\n"
 
 
-def lost_line(case, n):
-    """Three steps of each worker from its start, all others starting at their cuts."""
-    text = "others at their cuts"
-    for w in range(n):
-        _, plan, positions = begun(case, n)
-        for v in range(n):
-            if v != w:
-                plan[3 * v + 1] = positions[v] = plan[3 * v]
-        for _ in range(3):
-            answer, positions = reference.step_call(case[0], plan, positions, w)
-            text += " %d %d" % (answer, positions[w])
+def list_line(log, words, n, pattern, workers):
+    plan, positions = lent_words(words, n, MORE)
+    text = "list %d" % pattern
+    for worker in workers:
+        shown, positions = step_text(log, plan, positions, n, worker)
+        text += shown
     return text + "\n"
 
 
-def short_line(case, n, lent, room, w):
-    _, plan, positions = begun(case, n)
-    answer, after = reference.step_call(case[0], plan[:lent], positions[:room], w)
-    line = "plan lent %d positions lent %d step of %d answer %d" % (lent, room, w, answer)
-    return line + positions_after(n, after + positions[room:])
-
-
-def replay_lines(case, n):
-    number, plan, _ = begun(case, n)
-    text = "plan" + after_call(number, 3 * n, plan, PLAN_LENT)
-    text += "".join(list_line(case, n, pattern) for pattern in range(4))
-    for pattern, lent in ((0, ANSWERS), (1, 8 * (n + 2)), (2, one_less(8 * (n + 2)))):
-        text += steps_line(case, n, pattern, lent)
-    for w in (0, one_less(n)):
-        for by in (1, 65536, 4294967295):
-            text += changed_line(case, n, by, w)
-    text += lost_line(case, n)
-    for lent, room, w in ((3 * n, n, 0), (one_less(3 * n), n, 0), (3 * n, one_less(n), 0), (one_less(3 * n), one_less(n), n)):
-        text += short_line(case, n, lent, room, w)
-    return text + replayed_lines(case, n)
+def list_lines(log, words, n):
+    """The four patterns from the planned starts, then three steps of each worker while the others start at their cuts."""
+    text = "".join(list_line(log, words, n, pattern, worker_numbers(pattern, n, 8 * (n + 2))) for pattern in range(4))
+    return text + "".join(list_line(log, others_lost(words, n, w), n, 4 + w, [w] * 3) for w in range(n))
 
 
 def case_of(content):
@@ -237,8 +221,12 @@ def case_of(content):
 
 
 def case_lines(name, content):
-    """The name and the number that refuses the log, then the lines of each call."""
+    """The lines of each call, each with the case's name first."""
     case = case_of(content)
     n = size(case[0])
-    first = "%s %d\n" % (name, reference.refusal(case[0]))
-    return first + causality_lines(case, n) + restore_lines(case, n) + replay_lines(case, n)
+    words = state(case, n)
+    text = line("log", 0, reference.refusal(case[0]), words)
+    text += "".join(way_lines(case, words, n, way) for way in WAYS)
+    text += "".join(changed_line(case[0], words, n, by) for by in CHANGES)
+    text += list_lines(case[0], words, n)
+    return "".join("%s %s\n" % (name, row) for row in text.splitlines())

@@ -6,8 +6,8 @@
 
 The expected lines are those of expected.py. The others are what target/bin/cases, as the last `rt check` built it, prints for
 the case as make_cases.py has it now; it need not be stored yet. Where a line has words for each worker they stand below it as
-`worker: words`, and those of a list of steps as `call: answer positions`. A differing line's first row and each of its rows
-that differ begin with `!`, and the exit status is 1.
+`worker: words`, those of a list of steps as `call: words`, and those of changed words as `word: words`; expected.py says which
+words a line has. A differing line's first row and each of its rows that differ begin with `!`, and the exit status is 1.
 """
 
 import ast
@@ -93,26 +93,23 @@ def log_rows(data):
 def listed(n):
     """What stands before words that are listed, the number of entries, and the words of each."""
     return (
-        (r"^(?:vector|upper line|lower cut|list|positions|plan lent \d+ positions)\b.* words", n, 1),
-        (r"^(?:plan|restore and replay)\b.* words", n, 3),
-        (r"^one (?:less|more)", n, 2),
-        (r"^changed by.* plan words", n, 6),
-        (r"^changed by.* positions", n, 2),
-        (r"^others at their cuts", n, 6),
-        (r"^steps words", CALLS, n + 1),
+        (r"log way \d+ returns \d+", 5 * n, 1),
+        (r"(?:vector|upper_line|lower_cut|positions) way \d+ returns \d+", n, 1),
+        (r"(?:plan|restore) way \d+ returns \d+", n, 3),
+        (r"replay way \d+ returns \d+", CALLS, n + 1),
+        (r"by \d+", 5 * n, 6),
+        (r"list \d+", 8 * (n + 2), 2),
     )
 
 
 def parts(line, n):
     """The line without its listed words, and the entries of each of its lists."""
-    lists = []
     for before, count, each in listed(n):
-        found = re.match(r"(%s)((?: (?:\d+|yes|no)){%d})(?= [a-z]|$)(.*)" % (before, count * each), line) if count else None
+        found = re.match(r"(\S+ %s)((?:,? \d+){%d})$" % (before, count * each), line)
         if found:
-            words = found.group(2).split()
-            lists.append(["%d: %s" % (k, " ".join(words[k * each:(k + 1) * each])) for k in range(count)])
-            line = found.group(1) + " .." + found.group(3)
-    return line, lists
+            words = found.group(2).replace(",", "").split()
+            return found.group(1) + " ..", ["%d: %s" % (k, " ".join(words[k * each:(k + 1) * each])) for k in range(count)]
+    return line, []
 
 
 def grid(entries, cell, width):
@@ -123,18 +120,14 @@ def grid(entries, cell, width):
         yield from wrapped(row, width, " " * 8)
 
 
-def rows_of(line, n, cells, width):
-    text, lists = parts(line, n)
-    shown = wrapped(text, width)
-    for entries, cell in zip(lists, cells):
-        shown += grid(entries, cell, width)
-    return shown
+def rows_of(line, n, cell, width):
+    text, entries = parts(line, n)
+    return wrapped(text, width) + list(grid(entries, cell, width))
 
 
-def cells_of(lines, n):
-    """The widths of the cells of each list, for both sides alike."""
-    both = [parts(line, n)[1] for line in lines]
-    return [max(len(entry) for entries in lists if entries for entry in entries) for lists in itertools.zip_longest(*both)]
+def cell_of(lines, n):
+    """The width of the cells of a list, for both sides alike."""
+    return max((len(entry) for line in lines for entry in parts(line, n)[1]), default=0)
 
 
 def given(name):
@@ -158,8 +151,8 @@ def compare(expected, found, n):
     print("  %s | %s" % ("expected".ljust(SIDE), "given"))
     pairs = list(paired(expected, found))
     for pair in pairs:
-        cells = cells_of(pair, n)
-        sides = [rows_of(line, n, cells, SIDE) for line in pair]
+        cell = cell_of(pair, n)
+        sides = [rows_of(line, n, cell, SIDE) for line in pair]
         for k, (left, right) in enumerate(itertools.zip_longest(*sides, fillvalue="")):
             differs = left != right or (k == 0 and pair[0] != pair[1])
             print("%s %s | %s" % ("!" if differs else " ", left.ljust(SIDE), right))
@@ -181,7 +174,7 @@ def show(name):
         return compare(expected, found.splitlines(), n)
     print("target/bin/cases is not built (rt check cases builds it): the expected lines alone")
     for line in expected:
-        print("\n".join("  " + row for row in rows_of(line, n, cells_of([line], n), WIDTH)))
+        print("\n".join("  " + row for row in rows_of(line, n, cell_of([line], n), WIDTH)))
     return 0
 
 

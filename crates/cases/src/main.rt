@@ -1,28 +1,22 @@
-// Makes every call on each case file that an argument names, and prints what it returns and leaves.
+// Makes every call on each case file that an argument names, and prints what it returns and leaves, each line with the case's name first.
 // A case file is an input of the program `plan`: worker and event, 32 bits each, then the log.
 
 mod calls;
 mod changes;
-mod files;
 mod lists;
-mod lost;
-mod plans;
-mod restores;
-mod sets;
-mod short;
 mod state;
-mod tests;
 mod words;
 
-ghost use Prim.Native.Nat.{_*_, _≤_};
+ghost use Prim.Native.Nat.{_<_, _≤_};
 ghost use Rattle.log.specs.Limits.{maxWorkers};
 
-// The number of workers; 0 where the log is refused.
+// The number of workers; 1 where the log is refused.
 fn size(log: &[u8]) -> usize
+    ensures some { λ r. ⌜ 0 < r ⌝ }
     ensures few { λ r. ⌜ r ≤ maxWorkers ⌝ }
 {
     if planner::log_refusal(log) != 0 {
-        return 0;
+        return 1;
     }
     log::worker_count(log)
 }
@@ -30,97 +24,75 @@ fn size(log: &[u8]) -> usize
 // The scratch words that a lower cut or a plan of n workers needs.
 fn square(n: usize) -> usize
     requires { ⌜ n ≤ maxWorkers ⌝ }
-    ensures few { λ r. ⌜ r ≤ maxWorkers * maxWorkers ⌝ }
 {
     n * n
 }
 
-// The words that the plan needs.
-fn triple(n: usize) -> usize
-    requires { ⌜ n ≤ maxWorkers ⌝ }
-    ensures few { λ r. ⌜ r ≤ 3 * maxWorkers ⌝ }
-{
-    3 * n
-}
-
-// Each call that writes words is made with more of them than it needs, with just enough, and with one too few.
-fn run_lines(log: &[u8], worker: u32, event: u32, n: usize, short: usize)
-    requires { ⌜ (n ≤ maxWorkers) × (short ≤ n) ⌝ }
-{
-    calls::run_vector(log, worker, event, n, words::LENT);
-    calls::run_vector(log, worker, event, n, n);
-    calls::run_vector(log, worker, event, n, short);
-    calls::run_upper(log, worker, event, n, words::LENT);
-    calls::run_upper(log, worker, event, n, n);
-    calls::run_upper(log, worker, event, n, short);
-}
-
-fn run_cuts(log: &[u8], worker: u32, event: u32, n: usize, short: usize)
-    requires { ⌜ (n ≤ maxWorkers) × (short ≤ n) ⌝ }
-{
-    let room = square(n);
-    let short_room = words::one_less(room);
-    calls::run_lower(log, worker, event, n, words::LENT, words::ROOM);
-    calls::run_lower(log, worker, event, n, n, room);
-    calls::run_lower(log, worker, event, n, n, short_room);
-    calls::run_lower(log, worker, event, n, short, short_room);
-}
-
-// The plan is made with more words than it needs, with just enough, with one scratch word too few, and with one word too few of both.
-fn run_plans(log: &[u8], worker: u32, event: u32, n: usize)
+// The calls that write words of their own, lent in a way.
+fn run_way(name: &[u8], log: &[u8], worker: u32, event: u32, n: usize, way: u32)
     requires { ⌜ n ≤ maxWorkers ⌝ }
 {
-    let all = triple(n);
-    let room = square(n);
-    let short = words::one_less(all);
-    let short_room = words::one_less(room);
-    plans::run_plan(log, worker, event, all, words::PLAN_LENT, words::ROOM);
-    plans::run_plan(log, worker, event, all, all, room);
-    plans::run_plan(log, worker, event, all, all, short_room);
-    plans::run_plan(log, worker, event, all, short, short_room);
+    calls::run_line(name, b" vector", log, worker, event, n, way, false);
+    calls::run_line(name, b" upper_line", log, worker, event, n, way, true);
+    calls::run_search(name, b" lower_cut", log, worker, event, n, n, way);
+    calls::run_search(name, b" plan", log, worker, event, n, 3 * n, way);
+    calls::run_covers(name, log, way);
+    calls::run_restore(name, log, worker, event, n, way);
 }
 
-fn run_steps(log: &[u8], worker: u32, event: u32, n: usize)
+// Every way, also for the calls that are given words of the case.
+fn run_ways(name: &[u8], log: &[u8], worker: u32, event: u32, state: [u32; words::WORDS], n: usize)
     requires { ⌜ n ≤ maxWorkers ⌝ }
 {
-    state::run_plan(log, worker, event, n);
-    lists::run_lists(log, worker, event, n);
-    changes::run_changes(log, worker, event, n);
-    lost::run_lost(log, worker, event, n);
-    short::run_short(log, worker, event, n);
-    restores::run_restores(log, worker, event, n);
+    let mut way: u32 = 0;
+    while way <= words::FEW {
+        run_way(name, log, worker, event, n, way);
+        calls::run_test(name, log, state, n, way);
+        calls::run_step(name, log, state, n, way);
+        calls::run_steps(name, log, state, n, way);
+        way += 1;
+    }
 }
 
-// The number that refuses the log, then each call.
-fn run_all(log: &[u8], worker: u32, event: u32) {
-    words::print_word(b"", planner::log_refusal(log));
-    words::print(b"\n");
-    let n = size(log);
-    let short = words::one_less(n);
-    run_lines(log, worker, event, n, short);
-    run_cuts(log, worker, event, n, short);
-    tests::run_tests(log, worker, event, n, short);
-    run_plans(log, worker, event, n);
-    sets::run_sets(log);
-    run_steps(log, worker, event, n);
+// The number that refuses the log, with the words of the case; then every call.
+fn run_all(name: &[u8], log: &[u8], worker: u32, event: u32, n: usize)
+    requires { ⌜ (0 < n) × (n ≤ maxWorkers) ⌝ }
+{
+    let state = state::state_of(log, worker, event, n);
+    words::print_line(name, b" log", 0, planner::log_refusal(log), &state, 0);
+    run_ways(name, log, worker, event, state, n);
+    changes::run_changed(name, log, state, n, 1);
+    changes::run_changed(name, log, state, n, 65536);
+    changes::run_changed(name, log, state, n, 4294967295);
+    lists::run_lists(name, log, state, n);
 }
 
-// A case that was not read has no bytes.
-fn print_case(case: &[u8]) {
+// A case file that cannot be read has no bytes.
+fn run_case(name: &[u8], case: &[u8]) {
     if case.len() < 8 {
+        os::fail(name);
         return;
     }
+    let log = &case[8..];
+    let n = size(log);
     run_all(
-        &case[8..],
+        name,
+        log,
         bytes_le::read4(case, 0),
         bytes_le::read4(case, 4),
+        n,
     );
 }
 
+// The case that argument i names, as far as there is room for its bytes.
 fn run_argument(i: usize) {
+    let mut name = io::buffer();
     let mut bytes = io::large_buffer();
-    let n = files::read_case(i, &mut bytes);
-    print_case(&bytes[..n]);
+    let named = os::arg(i, &mut name);
+    let file = os::open_read(&name[..named]);
+    let n = io::read_full(file, &mut bytes);
+    libc::close(file);
+    run_case(&name[..named], &bytes[..n]);
 }
 
 fn main() {

@@ -1,37 +1,41 @@
-// The plan of a case, in the first of 200 words, and the positions, in the first of 72: the planned starts.
+// The words of a case in one array: the lower cut, n words; the plan, 3 × n words; the positions, n words; then fillers. Where the case is
+// refused they are fillers too.
 
-use super::words;
-ghost use Prim.Native.Nat.{_≤_};
+use super::words::WORDS;
+ghost use Prim.Native.Nat.{_<_, _≤_};
 ghost use Rattle.log.specs.Limits.{maxWorkers};
 
-// Makes the plan. Words past it hold fillers; all of them do where it is refused.
-pub(crate) fn begin(log: &[u8], worker: u32, event: u32, plan: &mut [u32]) -> u32 {
-    let mut scratch = [0u32; words::ROOM];
-    let mut totals = [0u64; 4];
-    words::fill(plan);
-    planner::plan(log, worker, event, plan, &mut scratch, &mut totals)
-}
-
-// Positions at the starts in the plan words of n workers, then fillers.
-pub(crate) fn starts_of(n: usize, plan: [u32; words::PLAN_LENT]) -> [u32; words::LENT]
-    requires { ⌜ n ≤ maxWorkers ⌝ }
+// Takes the cut from the plan; each worker starts at what is in its plan word `field`: 0 for the cut, 1 for the start.
+pub(crate) fn started(state: [u32; WORDS], n: usize, field: usize) -> [u32; WORDS]
+    requires { ⌜ (n ≤ maxWorkers) × (field < 2) ⌝ }
 {
-    let mut positions = [0u32; words::LENT];
-    words::fill(&mut positions);
+    let mut next = state;
     let mut w: usize = 0;
     while w < n {
-        positions[w] = plan[3 * w + 1];
+        let at = n + 3 * w;
+        let start = state[at + field];
+        next[w] = state[at];
+        next[at + 1] = start;
+        next[4 * n + w] = start;
         w += 1;
     }
-    positions
+    next
 }
 
-// Prints the plan words of n workers.
-pub(crate) fn run_plan(log: &[u8], worker: u32, event: u32, n: usize)
+// The words of the case, with each position at the planned start.
+pub(crate) fn state_of(log: &[u8], worker: u32, event: u32, n: usize) -> [u32; WORDS]
     requires { ⌜ n ≤ maxWorkers ⌝ }
 {
-    let mut plan = [0u32; words::PLAN_LENT];
-    let number = begin(log, worker, event, &mut plan);
-    words::print(b"plan");
-    words::print_line(number, 3 * n, &plan);
+    let mut state = super::words::fillers();
+    let mut scratch = state;
+    let mut totals = [0u64; 4];
+    planner::plan(
+        log,
+        worker,
+        event,
+        &mut state[n..],
+        &mut scratch,
+        &mut totals,
+    );
+    started(state, n, 1)
 }
