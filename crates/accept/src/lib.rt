@@ -194,7 +194,7 @@ fn any_fault(log: &[u8], w: usize, k: u32, before: u32, e: Event) -> bool
 
 // The events of each worker that the pass for any fault takes in turn. What a receive names was sent shortly before it, in a block that was
 // just read.
-const BLOCK: u32 = 256;
+const BLOCK: u32 = 128;
 
 // Where the block of events from `first` on ends, of `count` events.
 fn block_end(first: u32, count: u32) -> u32

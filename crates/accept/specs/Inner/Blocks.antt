@@ -8,7 +8,7 @@ use Rattle.accept.specs.Records.{recordFault}
 
 -- the events of a block
 abbrev pub blockSize : ℕ
-blockSize = 256
+blockSize = 128
 
 -- whether one of the first x events of worker w fails one of the tests 7 to 10
 unfoldable pub faultWithin : ℕ → Workers → ℕ → Bool
