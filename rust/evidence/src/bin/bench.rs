@@ -84,7 +84,7 @@ fn families() -> Vec<Vec<Input>> {
             .filter(|events| events / workers <= 60_000)
             .map(|events| Input {
                 name: format!("run {workers} workers"),
-                cases: (0..(400_000 / events as u64).clamp(1, 20))
+                cases: (0..(100_000 / events as u64).max(1))
                     .map(|seed| {
                         let mut random = Random::round(events as u64, seed);
                         Case::new(&run(&Shape::long(workers, events), &mut random), 0)
