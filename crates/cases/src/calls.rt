@@ -16,18 +16,19 @@ const STEP_CALLS: usize = 32;
 pub(crate) fn run_line(
     name: &[u8],
     call: &[u8],
+    is_upper: bool,
     log: &[u8],
     worker: u32,
     event: u32,
     n: usize,
     way: u32,
-    is_upper: bool,
 ) {
     let mut words = words::fillers();
+    let lent = words::part(&mut words, 0, n, CUT, way);
     let number = if is_upper {
-        planner::upper_line(log, worker, event, words::part(&mut words, 0, n, CUT, way))
+        planner::upper_line(log, worker, event, lent)
     } else {
-        planner::vector(log, worker, event, words::part(&mut words, 0, n, CUT, way))
+        planner::vector(log, worker, event, lent)
     };
     words::print_line(name, call, way, number, &words, 0);
 }
@@ -45,28 +46,15 @@ pub(crate) fn run_search(
 )
     requires { ⌜ n ≤ maxWorkers ⌝ }
 {
-    let room = super::square(n);
     let mut words = words::fillers();
     let mut scratch = words;
     let mut totals = [words::UNTOUCHED; words::TOTALS];
+    let lent = words::part(&mut words, 0, needed, CUT, way);
+    let room = words::part(&mut scratch, 0, super::square(n), SCRATCH, way);
     let number = if needed == n {
-        planner::lower_cut(
-            log,
-            worker,
-            event,
-            words::part(&mut words, 0, n, CUT, way),
-            words::part(&mut scratch, 0, room, SCRATCH, way),
-            &mut totals,
-        )
+        planner::lower_cut(log, worker, event, lent, room, &mut totals)
     } else {
-        planner::plan(
-            log,
-            worker,
-            event,
-            words::part(&mut words, 0, needed, CUT, way),
-            words::part(&mut scratch, 0, room, SCRATCH, way),
-            &mut totals,
-        )
+        planner::plan(log, worker, event, lent, room, &mut totals)
     };
     words::print_line(name, call, way, number, &words, 0);
     words::print_search(name, way, number, &scratch, &totals);

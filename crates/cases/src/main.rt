@@ -32,8 +32,8 @@ fn square(n: usize) -> usize
 fn run_way(name: &[u8], log: &[u8], worker: u32, event: u32, n: usize, way: u32)
     requires { ⌜ n ≤ maxWorkers ⌝ }
 {
-    calls::run_line(name, b" vector", log, worker, event, n, way, false);
-    calls::run_line(name, b" upper_line", log, worker, event, n, way, true);
+    calls::run_line(name, b" vector", false, log, worker, event, n, way);
+    calls::run_line(name, b" upper_line", true, log, worker, event, n, way);
     calls::run_search(name, b" lower_cut", log, worker, event, n, n, way);
     calls::run_search(name, b" plan", log, worker, event, n, 3 * n, way);
     calls::run_covers(name, log, way);

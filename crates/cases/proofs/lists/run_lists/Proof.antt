@@ -11,4 +11,23 @@ abbrev μ-loop : tie.MeasureT-loop
 μ-loop name log state n all w₀ w = n - w
 
 pub run-lists-spec : {M : Type 1} → statement M
-run-lists-spec = tie.close (tie.spec Inv-loop μ-loop (λ c. omega arith) (λ c. omega arith) (λ c κs. (omega arith, omega arith)) (λ c κs. (omega arith, omega arith)) (λ c κs. (omega arith, omega arith)) (λ c κs. (omega arith, omega arith)) (λ c. tt) (λ c κs. (omega arith, omega arith)) (λ c. omega arith) (λ c. omega arith) (λ c κs. (omega arith, omega arith)) (λ c. omega arith) (λ c. omega arith) (λ c. tt) (λ c. tt))
+run-lists-spec =
+    tie.close
+    (tie.spec
+    Inv-loop
+    μ-loop
+    (λ c. omega arith)
+    (λ c. omega arith)
+    (λ c κs. (omega arith, omega arith))
+    (λ c κs. (omega arith, omega arith))
+    (λ c κs. (omega arith, omega arith))
+    (λ c κs. (omega arith, omega arith))
+    (λ c. tt)
+    (λ c κs. (omega arith, omega arith))
+    (λ c. omega arith)
+    (λ c. omega arith)
+    (λ c κs. (omega arith, omega arith))
+    (λ c. omega arith)
+    (λ c. omega arith)
+    (λ c. tt)
+    (λ c. tt))
