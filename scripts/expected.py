@@ -22,7 +22,7 @@ import struct
 import reference
 
 # The words of each kind that there are, and the totals; what each total holds before a call.
-WORDS = 64 * 64 + 8
+WORDS = reference.MAX_WORKERS ** 2 + 8
 TOTALS = 5
 UNTOUCHED = 999
 
@@ -33,7 +33,7 @@ FEW = 9
 WAYS = range(FEW + 1)
 
 # The numbers of the longest list, and the calls of a list that is lent with a plan.
-LIST = 8 * (64 + 2)
+LIST = 8 * (reference.MAX_WORKERS + 2)
 CALLS = 32
 
 # The sums by which a word is changed, and the identifiers that are tested for a covering set.

@@ -15,6 +15,10 @@ import sys
 import reference
 from expected import IDENTIFIERS, case_lines
 from logs import Worker, build, case_file, cut_to, extended, tube
+from reference import MAX_WORKERS
+
+# The last of the most workers.
+LAST = MAX_WORKERS - 1
 
 CRATE = os.path.join(os.path.dirname(os.path.abspath(__file__)), "..", "crates", "cases")
 
@@ -83,7 +87,7 @@ case("last_receive_names_a_smaller_send", 0, two(
     second=[("send", 0, 1), ("send", 0, 2), ("send", 0, 3)],
     second_checkpoints=[],
 ), event=2)
-case("sixty_four_workers_with_events", 0, build(each_to_the_next(64)), worker=63, event=2)
+case("sixty_four_workers_with_events", 0, build(each_to_the_next(MAX_WORKERS)), worker=LAST, event=2)
 # 48 + 5,456 × 12 + 8 = 65,528 bytes
 case("longest_input", 0, two(
     first=[("send", 1, stamp) for stamp in range(1, 5457)],
@@ -144,13 +148,13 @@ case("form_257", 2, two(form=257))
 # ---- 3: "n outside 1..64"
 
 case("no_workers", 3, build([]))
-case("sixty_five_workers", 3, build(without_events(65)))
+case("sixty_five_workers", 3, build(without_events(MAX_WORKERS + 1)))
 case("worker_count_257", 3, build(without_events(1), size=257))
 
 # ---- 4: "length field unlike the lent length, or header longer than the log"
 
 case("header_is_the_log_of_1_worker", 0, build(without_events(1)), event=0)
-case("header_is_the_log_of_64_workers", 0, build(without_events(64)), event=0)
+case("header_is_the_log_of_64_workers", 0, build(without_events(MAX_WORKERS)), event=0)
 case("header_of_1_worker_lacks_a_byte", 4, cut_to(build(without_events(1)), 27))
 case("log_of_8_bytes", 4, bytes([1, 0, 1, 0, 8, 0, 0, 0]))
 case("length_field_one_less", 4, two(length=111))
@@ -189,7 +193,7 @@ case("empty_sections_at_the_log_end", 0, three(fields={(2, "event offset"): 132,
 case("empty_events_beyond_the_log_end", 6, three(fields={(2, "event offset"): 133}))
 case("empty_checkpoints_beyond_the_log_end", 6, three(fields={(2, "checkpoint offset"): 133}))
 case("empty_events_at_the_largest_offset", 6, three(fields={(2, "event offset"): 4294967295}))
-case("last_of_64_workers_starts_inside_the_header", 6, build(without_events(64), fields={(63, "event offset"): 1287}))
+case("last_of_64_workers_starts_inside_the_header", 6, build(without_events(MAX_WORKERS), fields={(LAST, "event offset"): 8 + 20 * MAX_WORKERS - 1}))
 EVENTS_LAST = [("checkpoints", 0), ("checkpoints", 1), ("events", 0), ("events", 1)]
 case("events_pass_the_end_by_a_byte", 6, two(places=EVENTS_LAST, fields={(1, "event offset"): 89}))
 case("checkpoints_pass_the_end_by_a_byte", 6, two(fields={(1, "checkpoint offset"): 105}))
@@ -219,9 +223,9 @@ case("receive_from_itself", 7, third_event(("receive", 0, 1, 5)))
 case("send_to_worker_n", 7, third_event(("send", 2, 5)))
 case("receive_from_worker_n", 7, third_event(("receive", 2, 1, 5)))
 case("last_of_64_workers_as_peer", 0, build(
-    [Worker(0, [("send", 63, 1), ("receive", 63, 1, 3)])] + without_events(62) + [Worker(0, [("send", 0, 2)])],
+    [Worker(0, [("send", LAST, 1), ("receive", LAST, 1, 3)])] + without_events(LAST - 1) + [Worker(0, [("send", 0, 2)])],
 ), event=2)
-case("worker_64_of_64_as_peer", 7, build([Worker(0, [("send", 64, 1)])] + without_events(63)))
+case("worker_64_of_64_as_peer", 7, build([Worker(0, [("send", MAX_WORKERS, 1)])] + without_events(LAST)))
 case("peer_event_1_of_a_send", 7, third_event(("raw", 1, 1, 0, 1, 5)))
 case("peer_event_16777216_of_a_send", 7, third_event(("raw", 1, 1, 0, 16777216, 5)))
 case("peer_event_0_of_a_receive", 7, third_event(("receive", 1, 0, 5)))
@@ -299,7 +303,7 @@ case("last_checkpoint_of_the_last_worker", 11, two(second_checkpoints=[(0, 1), (
 
 case("1_before_2", 1, bytes([2, 0, 1, 0, 7, 0, 0]))
 case("2_before_3", 2, build([], form=2))
-case("3_before_4", 3, two(size=65, length=0))
+case("3_before_4", 3, two(size=MAX_WORKERS + 1, length=0))
 case("4_before_5", 4, two(length=111, roles=(4, 4)))
 case("5_in_the_last_worker_before_6_in_the_first", 5, two(roles=(0, 4), fields={(0, "event offset"): 0}))
 case("6_in_the_last_worker_before_7_in_the_first", 6, two(
@@ -397,10 +401,10 @@ cut_case("five_workers_deep_up", build(chain([4, 3, 2, 1, 0])), 0, 1)
 cut_case("five_workers_deep_down", build(chain([0, 1, 2, 3, 4])), 4, 1)
 cut_case("five_workers_deep_mixed", build(chain([3, 0, 4, 1, 2])), 2, 1)
 cut_case("five_workers_deep_from_the_middle", build(chain([3, 0, 4, 1, 2])), 4, 2)
-cut_case("sixty_four_workers_deep_up", build(chain(list(range(63, -1, -1)))), 0, 1)
-cut_case("sixty_four_workers_deep_down", build(chain(list(range(64)))), 63, 1)
-cut_case("sixty_four_workers_before_the_first", build(chain(list(range(64)))), 0, 1)
-cut_case("sixty_four_workers_from_the_middle", build(chain(list(range(64)))), 31, 1)
+cut_case("sixty_four_workers_deep_up", build(chain(list(range(LAST, -1, -1)))), 0, 1)
+cut_case("sixty_four_workers_deep_down", build(chain(list(range(MAX_WORKERS)))), LAST, 1)
+cut_case("sixty_four_workers_before_the_first", build(chain(list(range(MAX_WORKERS)))), 0, 1)
+cut_case("sixty_four_workers_from_the_middle", build(chain(list(range(MAX_WORKERS)))), 31, 1)
 
 # worker 1 is visited at event 1, and again at event 3 because of worker 2
 AGAIN = [
@@ -488,7 +492,7 @@ def plan_case(name, workers, worker, event, starts, identifiers=None, units=None
     """A case whose starts and what else is given were worked out by hand; covering: those of IDENTIFIERS."""
     log = workers if isinstance(workers, bytes) else build(workers)
     case(name, 0, log, worker, event)
-    _, _, _, found_units, _, words = reference.plan_call(log, worker, event, [0] * 192, 4096)
+    _, _, _, found_units, _, words = reference.plan_call(log, worker, event, [0] * (3 * MAX_WORKERS), MAX_WORKERS ** 2)
     n = len(starts)
     assert words[1:3 * n:3] == list(starts), "%s: starts %r by the reference" % (name, words[1:3 * n:3])
     assert identifiers in (None, words[2:3 * n:3]), "%s: identifiers %r by the reference" % (name, words[2:3 * n:3])
@@ -580,26 +584,26 @@ def changed(workers, w, events=None, checkpoints=None):
     return workers
 
 
-UP = list(range(64))
+UP = list(range(MAX_WORKERS))
 DOWN = UP[::-1]
-plan_case("all_of_64_lowered_up", after_each(["send"], chain(UP)), 63, 1, [0] * 64)
-plan_case("all_of_64_lowered_down", after_each(["send"], chain(DOWN)), 0, 1, [0] * 64)
+plan_case("all_of_64_lowered_up", after_each(["send"], chain(UP)), LAST, 1, [0] * MAX_WORKERS)
+plan_case("all_of_64_lowered_down", after_each(["send"], chain(DOWN)), 0, 1, [0] * MAX_WORKERS)
 # worker 31 may start after its receive: those before it stay at their latest
-plan_case("half_of_64_lowered", changed(after_each(["send"], chain(UP)), 31, checkpoints=[(1, 1), (2, 2)]), 63, 1,
+plan_case("half_of_64_lowered", changed(after_each(["send"], chain(UP)), 31, checkpoints=[(1, 1), (2, 2)]), LAST, 1,
     [1] + [2] * 30 + [1] + [0] * 32)
 # worker 31 has the data of its receive
 plan_case("half_of_64_lowered_by_a_logged_receive", changed(
-    after_each(["send"], chain(UP)), 31, events=[("logged", 30, 2, 62), ("send", 32, 63)]), 63, 1,
+    after_each(["send"], chain(UP)), 31, events=[("logged", 30, 2, 62), ("send", 32, 63)]), LAST, 1,
     [1] + [2] * 30 + [0] * 33)
 # the worker of the breakpoint may start after its receive: nothing is lowered
-plan_case("none_of_64_lowered", changed(after_each(["send"], chain(UP)), 63, checkpoints=[(1, 1)]), 63, 1,
+plan_case("none_of_64_lowered", changed(after_each(["send"], chain(UP)), LAST, checkpoints=[(1, 1)]), LAST, 1,
     [1] + [2] * 62 + [1], covering=(0, 1))
 # each worker but the last is lowered twice: the chain goes to worker 63 and back
-plan_case("all_of_64_lowered_up_and_back", after_each(["send"], chain(UP + DOWN[1:])), 0, 2, [0] * 64, covering=(0, 1))
-plan_case("all_of_64_lowered_down_and_back", after_each(["send"], chain(DOWN + UP[1:])), 63, 2, [0] * 64, covering=(0, 1))
+plan_case("all_of_64_lowered_up_and_back", after_each(["send"], chain(UP + DOWN[1:])), 0, 2, [0] * MAX_WORKERS, covering=(0, 1))
+plan_case("all_of_64_lowered_down_and_back", after_each(["send"], chain(DOWN + UP[1:])), LAST, 2, [0] * MAX_WORKERS, covering=(0, 1))
 # on the way back the data of the receive of worker 63 are logged: each is lowered once
 plan_case("each_of_64_lowered_once", changed(
-    after_each(["send"], chain(UP + DOWN[1:])), 63, events=[("logged", 62, 2, 126), ("send", 62, 127)]), 0, 2,
+    after_each(["send"], chain(UP + DOWN[1:])), LAST, events=[("logged", 62, 2, 126), ("send", 62, 127)]), 0, 2,
     [1] + [2] * 62 + [0], covering=(0, 1))
 plan_case("all_of_5_lowered_in_mixed_order", after_each(["send"], chain([3, 0, 4, 1, 2])), 2, 1, [0] * 5)
 # 75 rounds with checkpoints after the sends: every start is lowered round by round to 0

@@ -18,6 +18,9 @@ import logs
 
 SEND, UNLOGGED, LOGGED = 1, 2, 3
 
+# The largest worker count of a log.
+MAX_WORKERS = 64
+
 # Units of an event by role, for kinds 1, 2 and 3.
 UNITS = {0: (2, 3, 5), 1: (2, 4, 6), 2: (3, 8, 9), 3: (2, 5, 7)}
 
@@ -67,7 +70,7 @@ def read(data):
     refuse_if(not 8 <= len(data) <= 4194304, 1)
     form, n, length = struct.unpack_from("<HHI", data)
     refuse_if(form != 1, 2)
-    refuse_if(not 1 <= n <= 64, 3)
+    refuse_if(not 1 <= n <= MAX_WORKERS, 3)
     header = 8 + 20 * n
     refuse_if(length != len(data) or header > len(data), 4)
 
@@ -490,7 +493,7 @@ def printed(content):
         return "refused 1\n"
     worker, event = struct.unpack_from("<II", content)
     data = content[8:]
-    number, visits, events, units, workers, words = plan_call(data, worker, event, [0] * 192, 4096)
+    number, visits, events, units, workers, words = plan_call(data, worker, event, [0] * (3 * MAX_WORKERS), MAX_WORKERS ** 2)
     if number != 0:
         return "refused %d\n" % number
     log = read(data)

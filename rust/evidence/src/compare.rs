@@ -1,7 +1,7 @@
 //! Calls of the exported functions, each compared with the reference on its number and on every lent word, with guard words
 //! before and behind.
 
-use crate::description::worker_count;
+use crate::description::{worker_count, MAX_WORKERS, PLAN_WORDS, SCRATCH_WORDS};
 use crate::failure::{self, Call, Difference, Meaning};
 use crate::random::Random;
 use reference::Log;
@@ -597,7 +597,14 @@ pub fn worker(random: &mut Random, log: &Log) -> u32 {
     let n = log.size();
     match random.below(20) {
         0 => n as u32,
-        1 => random.pick(&[64, 255, 256, u32::MAX, n as u32 + 1, 1 << 31]),
+        1 => random.pick(&[
+            MAX_WORKERS as u32,
+            255,
+            256,
+            u32::MAX,
+            n as u32 + 1,
+            1 << 31,
+        ]),
         _ => random.below(n) as u32,
     }
 }
@@ -626,8 +633,15 @@ pub struct State {
 impl State {
     /// The reference's plan of a breakpoint, at its starts.
     pub fn planned(log: &[u8], worker: u32, event: u32) -> Option<State> {
-        let mut plan = vec![0; 192];
-        let number = reference::plan(log, worker, event, &mut plan, &mut [0; 4_096], &mut [0; 4]);
+        let mut plan = vec![0; PLAN_WORDS];
+        let number = reference::plan(
+            log,
+            worker,
+            event,
+            &mut plan,
+            &mut [0; SCRATCH_WORDS],
+            &mut [0; 4],
+        );
         if number != 0 {
             return None;
         }
@@ -802,7 +816,7 @@ pub fn every_call(random: &mut Random, log: &[u8], seen: &mut Seen) {
 fn refused(random: &mut Random, log: &[u8]) {
     let worker = random.below(70) as u32;
     let event = random.below(5) as u32;
-    let n = random.within(0, 64);
+    let n = random.within(0, MAX_WORKERS);
     vector(random, log, worker, event, n);
     let plan: Vec<u32> = (0..3 * n).map(|_| random.word()).collect();
     let positions: Vec<u32> = (0..n).map(|_| random.word()).collect();
@@ -890,7 +904,7 @@ fn tests(random: &mut Random, log: &[u8], accepted: &Log, seen: &mut Seen) {
     let mut words = vec![0; n];
     let drawn = match random.below(3) {
         0 => reference::upper_line(log, w, e, &mut words),
-        1 => reference::lower_cut(log, w, e, &mut words, &mut [0; 4_096], &mut [0; 2]),
+        1 => reference::lower_cut(log, w, e, &mut words, &mut [0; SCRATCH_WORDS], &mut [0; 2]),
         _ => 1,
     };
     if drawn != 0 {

@@ -1,6 +1,6 @@
 //! Damaged logs.
 
-use crate::description::{get, put};
+use crate::description::{get, put, MAX_WORKERS};
 use crate::random::Random;
 
 /// The log with one to three faults, or what were meant to be faults.
@@ -55,7 +55,7 @@ fn edit_start(log: &mut [u8], random: &mut Random) {
     if log.len() < 8 {
         return;
     }
-    let number = random.pick(&[0, 1, 2, 3, 64, 65, 256, 257, 65_535]) as u16;
+    let number = random.pick(&[0, 1, 2, 3, MAX_WORKERS, MAX_WORKERS + 1, 256, 257, 65_535]) as u16;
     match random.below(4) {
         0 => log[0..2].copy_from_slice(&number.to_le_bytes()),
         1 | 2 => log[2..4].copy_from_slice(&number.to_le_bytes()),
@@ -69,7 +69,7 @@ fn edit_start(log: &mut [u8], random: &mut Random) {
 
 /// The place of any worker's entry that lies in the log.
 fn any_entry(log: &[u8], random: &mut Random) -> Option<usize> {
-    let n = usize::from(*log.get(2)?).min(64);
+    let n = usize::from(*log.get(2)?).min(MAX_WORKERS);
     let entries = (log.len().checked_sub(8)? / 20).min(n);
     (entries > 0).then(|| 8 + 20 * random.below(entries))
 }

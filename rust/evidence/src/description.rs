@@ -5,6 +5,14 @@ use crate::random::Random;
 /// The longest log.
 pub const MAX_LOG: usize = 4_194_304;
 
+pub use reference::MAX_WORKERS;
+
+/// The words of a plan of the most workers.
+pub const PLAN_WORDS: usize = 3 * MAX_WORKERS;
+
+/// The scratch words that it needs.
+pub const SCRATCH_WORDS: usize = MAX_WORKERS * MAX_WORKERS;
+
 /// An event.
 #[derive(Clone, Copy, Debug, PartialEq, Eq)]
 pub struct Event {

@@ -1,6 +1,8 @@
 //! Logs of simulated runs, and logs of a given shape.
 
-use crate::description::{get, put, worker_count, Description, Event, Worker, MAX_LOG};
+use crate::description::{
+    get, put, worker_count, Description, Event, Worker, MAX_LOG, MAX_WORKERS,
+};
 use crate::random::Random;
 
 /// What a simulated run is like. Shares are of 1,000.
@@ -406,10 +408,10 @@ pub fn chain(workers: usize, chain: usize, events: usize) -> Description {
     }
 }
 
-/// A log of 64 workers and close to 4 MiB.
+/// A log of the most workers and close to 4 MiB.
 pub fn widest(random: &mut Random) -> Description {
-    let events = (MAX_LOG - 8 - 20 * 64 - 64 * 60 * 8) / 12 - 64 * 30;
-    let mut shape = Shape::long(64, events);
+    let events = (MAX_LOG - 8 - MAX_WORKERS * (20 + 60 * 8)) / 12 - MAX_WORKERS * 30;
+    let mut shape = Shape::long(MAX_WORKERS, events);
     shape.checkpoints = 5;
     run(&shape, random)
 }

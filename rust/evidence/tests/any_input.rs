@@ -2,6 +2,7 @@
 
 use evidence::compare::{every_call, is_refused_by, Seen};
 use evidence::damage::{damaged, garbage};
+use evidence::description::MAX_WORKERS;
 use evidence::random::Random;
 use evidence::runs::any_log;
 
@@ -31,7 +32,7 @@ fn larger_valid_logs() {
     let mut seen = Seen::default();
     for round in 0..1_500 {
         let mut random = Random::round(200, round);
-        let log = any_log(&mut random, 64, 2_500);
+        let log = any_log(&mut random, MAX_WORKERS, 2_500);
         is_refused_by(&random, &log, 0);
         every_call(&mut random, &log, &mut seen);
     }

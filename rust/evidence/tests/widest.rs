@@ -4,13 +4,18 @@ use evidence::compare::{
     every_call, is_refused_by, lower_cut, plan, restore_and_replay, step, steps, upper_line,
     vector, Lengths, Replayed, Room, Seen, State,
 };
-use evidence::description::{get, put, worker_count, Description, Event, Worker, MAX_LOG};
+use evidence::description::{
+    get, put, worker_count, Description, Event, Worker, MAX_LOG, MAX_WORKERS, SCRATCH_WORDS,
+};
 use evidence::failure::Call;
 use evidence::random::Random;
 use evidence::runs::{deep, hub, ring, run, widest, Shape};
 
 /// The most bytes that the steps of a list together test in a call of `restore_and_replay`: each tests the whole log.
 const MOST_BYTES: usize = 100_000_000;
+
+/// The last of the most workers.
+const LAST: usize = MAX_WORKERS - 1;
 
 /// Compares the refusal of a log that no seed made with the number that it has to have.
 fn is_refused(log: &[u8], number: u32) {
@@ -109,7 +114,7 @@ fn longest_log() {
 #[test]
 fn faults_in_the_last_records_of_a_long_log() {
     let mut random = Random::new(4);
-    let description = run(&Shape::long(64, 300_000), &mut random);
+    let description = run(&Shape::long(MAX_WORKERS, 300_000), &mut random);
     let last = description.workers.len() - 1;
     let with = |edit: &dyn Fn(&mut Worker)| {
         let mut description = description.clone();
@@ -182,13 +187,20 @@ fn most_events_in_a_worker() {
 #[test]
 fn most_workers() {
     let mut random = Random::new(8);
-    for (workers, number) in [(1, 0), (2, 0), (63, 0), (64, 0), (65, 3), (255, 3)] {
+    for (workers, number) in [
+        (1, 0),
+        (2, 0),
+        (LAST, 0),
+        (MAX_WORKERS, 0),
+        (MAX_WORKERS + 1, 3),
+        (255, 3),
+    ] {
         let log = run(&Shape::long(workers, 3_000), &mut random).pack();
         is_refused_by(&random, &log, number);
         often(&log, 9, 20);
     }
     for workers in [0_u16, 320, 65_535] {
-        let mut log = run(&Shape::long(64, 3_000), &mut random).pack();
+        let mut log = run(&Shape::long(MAX_WORKERS, 3_000), &mut random).pack();
         log[2..4].copy_from_slice(&workers.to_le_bytes());
         is_refused_by(&random, &log, 3);
     }
@@ -197,7 +209,7 @@ fn most_workers() {
 #[test]
 fn most_checkpoints() {
     let mut random = Random::new(10);
-    let mut description = run(&Shape::long(64, 200_000), &mut random);
+    let mut description = run(&Shape::long(MAX_WORKERS, 200_000), &mut random);
     for worker in &mut description.workers {
         let count = worker.events.len() as u32;
         worker.checkpoints = (0..1_024).map(|k| (count * k / 1_023, k + 1)).collect();
@@ -205,30 +217,34 @@ fn most_checkpoints() {
     let log = description.pack();
     is_refused_by(&random, &log, 0);
     often(&log, 11, 3);
-    let count = description.workers[63].events.len() as u32;
-    at_events(&log, 63, &[1, count / 2, count]);
+    let count = description.workers[LAST].events.len() as u32;
+    at_events(&log, LAST as u32, &[1, count / 2, count]);
 
-    description.workers[63].checkpoints.push((count, 1_025));
+    description.workers[LAST].checkpoints.push((count, 1_025));
     is_refused_by(&random, &description.pack(), 5);
 }
 
 #[test]
 fn many_visits() {
     for levels in [1, 5, 16] {
-        let description = deep(64, levels);
+        let description = deep(MAX_WORKERS, levels);
         let log = description.pack();
         is_refused(&log, 0);
-        let (mut words, mut scratch, mut totals) = ([0; 64], [0; 4_096], [0; 2]);
-        let number = reference::lower_cut(&log, 63, 1, &mut words, &mut scratch, &mut totals);
-        assert_eq!((number, totals[0]), (0, (1 << levels) + 63 - levels as u64));
-        at_events(&log, 63, &[1]);
+        let (mut words, mut scratch, mut totals) = ([0; MAX_WORKERS], [0; SCRATCH_WORDS], [0; 2]);
+        let number =
+            reference::lower_cut(&log, LAST as u32, 1, &mut words, &mut scratch, &mut totals);
+        assert_eq!(
+            (number, totals[0]),
+            (0, (1 << levels) + (LAST - levels) as u64)
+        );
+        at_events(&log, LAST as u32, &[1]);
         often(&log, 12, 3);
     }
 }
 
 #[test]
 fn one_worker_that_hears_from_all() {
-    let log = hub(64, 65_535).pack();
+    let log = hub(MAX_WORKERS, 65_535).pack();
     is_refused(&log, 0);
     at_events(&log, 0, &[1, 64, 30_000, 65_535]);
     often(&log, 13, 2);
@@ -236,7 +252,7 @@ fn one_worker_that_hears_from_all() {
 
 #[test]
 fn one_message_that_goes_round() {
-    let log = ring(64, 200_000).pack();
+    let log = ring(MAX_WORKERS, 200_000).pack();
     is_refused(&log, 0);
     at_events(&log, 0, &[1]);
     let count = get(&log, 28);

@@ -13,6 +13,6 @@ mod replay;
 mod restore;
 
 pub use causality::{cut_test, lower_cut, upper_line, vector};
-pub use log::{accept, log_refusal, Checkpoint, Event, Log, Worker};
+pub use log::{accept, log_refusal, Checkpoint, Event, Log, Worker, MAX_WORKERS};
 pub use replay::{restore_and_replay, step, steps};
 pub use restore::{covers, plan};

@@ -1,5 +1,8 @@
 //! The layout of a log and refusals 1 to 13.
 
+/// The largest worker count of a log.
+pub const MAX_WORKERS: usize = 64;
+
 /// An event record.
 #[derive(Clone, Copy, Debug, PartialEq, Eq)]
 pub struct Event {
@@ -159,7 +162,7 @@ fn layout(log: &[u8]) -> Result<Log<'_>, u32> {
         return Err(2);
     }
     let size = usize::from(half(log, 2));
-    if !(1..=64).contains(&size) {
+    if !(1..=MAX_WORKERS).contains(&size) {
         return Err(3);
     }
     let header = 8 + 20 * size;

@@ -7,7 +7,7 @@
 //! the exported function and one of the reference have their own. Every call tests the whole log, so each ratio has that in it.
 
 use evidence::compare::State;
-use evidence::description::Description;
+use evidence::description::{Description, MAX_WORKERS, PLAN_WORDS, SCRATCH_WORDS};
 use evidence::random::Random;
 use evidence::runs::{chain, deep, hub, ring, run, two_level_hub, Shape};
 use restore_planner::calls;
@@ -45,7 +45,7 @@ impl Case {
         let worker = worker as u32;
         let state = State::planned(&log, worker, event).expect("the plan of the breakpoint");
         let list = state.replay(&accepted).expect("the plan works");
-        let (mut words, mut scratch, mut totals) = ([0; 64], [0; 4_096], [0; 2]);
+        let (mut words, mut scratch, mut totals) = ([0; MAX_WORKERS], [0; SCRATCH_WORDS], [0; 2]);
         reference::lower_cut(&log, worker, event, &mut words, &mut scratch, &mut totals);
         Case {
             events: description.events(),
@@ -78,7 +78,7 @@ fn one(name: &str, description: &Description, worker: usize) -> Input {
 /// Families of inputs that grow.
 fn families() -> Vec<Vec<Input>> {
     let mut families = Vec::new();
-    for workers in [4, 16, 64] {
+    for workers in [4, 16, MAX_WORKERS] {
         let family = [5_000, 20_000, 80_000, 320_000]
             .into_iter()
             .filter(|events| events / workers <= 60_000)
@@ -93,17 +93,34 @@ fn families() -> Vec<Vec<Input>> {
             });
         families.push(family.collect());
     }
-    let family = [10, 12, 14, 16]
-        .map(|levels| one(&format!("deep, {levels} levels"), &deep(64, levels), 63));
+    let family = [10, 12, 14, 16].map(|levels| {
+        one(
+            &format!("deep, {levels} levels"),
+            &deep(MAX_WORKERS, levels),
+            MAX_WORKERS - 1,
+        )
+    });
     families.push(family.into());
-    let family = [4_000, 16_000, 65_535].map(|events| one("hub, 64 workers", &hub(64, events), 0));
+    let family = [4_000, 16_000, 65_535].map(|events| {
+        one(
+            &format!("hub, {MAX_WORKERS} workers"),
+            &hub(MAX_WORKERS, events),
+            0,
+        )
+    });
     families.push(family.into());
-    let family =
-        [20_000, 80_000, 240_000].map(|e| one("two-level hub", &two_level_hub(64, 7, e), 0));
+    let family = [20_000, 80_000, 240_000]
+        .map(|e| one("two-level hub", &two_level_hub(MAX_WORKERS, 7, e), 0));
     families.push(family.into());
-    let family = [20_000, 80_000, 300_000].map(|e| one("chain", &chain(64, 16, e), 15));
+    let family = [20_000, 80_000, 300_000].map(|e| one("chain", &chain(MAX_WORKERS, 16, e), 15));
     families.push(family.into());
-    let family = [20_000, 80_000, 300_000].map(|e| one("ring, 64 workers", &ring(64, e), 0));
+    let family = [20_000, 80_000, 300_000].map(|e| {
+        one(
+            &format!("ring, {MAX_WORKERS} workers"),
+            &ring(MAX_WORKERS, e),
+            0,
+        )
+    });
     families.push(family.into());
     families
 }
@@ -126,10 +143,10 @@ impl Words {
     fn new(input: &Input) -> Words {
         let longest = input.cases.iter().map(|case| case.list.len()).max();
         Words {
-            words: vec![0; 192],
-            scratch: vec![0; 4_096],
+            words: vec![0; PLAN_WORDS],
+            scratch: vec![0; SCRATCH_WORDS],
             totals: vec![0; 4],
-            positions: vec![0; 64],
+            positions: vec![0; MAX_WORKERS],
             answers: vec![0; longest.unwrap_or(0) + 1],
         }
     }
