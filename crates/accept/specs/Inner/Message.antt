@@ -1,4 +1,4 @@
--- The tests of a message, put alike for a send and a receive: a send is held against itself.
+-- The tests of a message, put alike for a send and a receive: a send is compared with itself.
 -- Assumes nothing.
 use mathlib.Core.Bool.{Bool, not, cond, _||_}
 use Prim.Native.Nat.{ℕ, _+_, _-_}
