@@ -8,7 +8,7 @@ use lib.Dec.{eqb, ltb}
 use lib.ListN.{length}
 use Rattle.ranges.specs.Fold.{anyBelow, maxBelow, sumBelow, tabulate}
 use Rattle.lent.specs.Lent.{at}
-use Rattle.log.specs.Model.{Workers, workerCount, eventCount, eventOf, isReceive}
+use Rattle.log.specs.Model.{Workers, workerCount, eventCount, eventOf, isReceive, received}
 
 -- what event k + 1 of worker i names of worker v: its peer event where it is a receive from v, else 0
 unfoldable pub namedOf : Workers → ℕ → ℕ → ℕ → ℕ
@@ -55,7 +55,7 @@ isConsistent log cut = not (anyBelow (workerLacks log cut) (workerCount log))
 
 -- the receives within a cut
 unfoldable pub receiveAt : Workers → ℕ → ℕ → ℕ
-receiveAt log w k = cond (isReceive (eventOf log w (k + 1))) 1 0
+receiveAt log w k = received (eventOf log w (k + 1))
 
 unfoldable pub receivesOf : Workers → List ℕ → ℕ → ℕ
 receivesOf log cut w = sumBelow (receiveAt log w) (at cut w)

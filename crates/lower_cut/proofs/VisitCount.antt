@@ -14,7 +14,7 @@ use Rattle.ranges.specs.Fold.{sumBelow, sweep}
 use Rattle.ranges.proofs.Sum.{sum-bound, sum-le, sum-lt}
 use Rattle.ranges.proofs.Sweep.{sweep-keeps}
 use Rattle.log.specs.Limits.{maxWorkers, maxEvents}
-use Rattle.log.specs.Model.{Workers, workerCount, eventOf, isReceive}
+use Rattle.log.specs.Model.{Workers, workerCount, eventOf, isReceive, received}
 use Rattle.log.proofs.Read.{worker-within}
 use Rattle.accept.specs.WellFormed.{WellFormed}
 use Rattle.causality.specs.Happened.{IsEvent}
@@ -109,7 +109,7 @@ unfoldable pub known : Workers → List ℕ → List ℕ → ℕ
 known log final cut = sumBelow (knownOf log final cut) (workerCount log)
 
 known-receive : (log : Workers) (cut : List ℕ) (w k : ℕ) → knownAt log cut w k ≤ receiveAt log w k
-unfolding knownAt receiveAt
+unfolding knownAt receiveAt received
 known-receive log cut w k = test (isReceive (eventOf log w (k + 1))) (leb (eventOf log w (k + 1) .send) (at cut (eventOf log w (k + 1) .peer)))
   where
     test : (b c : Bool) → cond (b && c) 1 0 ≤ cond {A = ℕ} b 1 0
@@ -168,7 +168,7 @@ known-few log final cut =
 
 -- a cut has no more receives than events, and no more events than a log may have
 pub receives-few : (log : Workers) → WellFormed log → (cut : List ℕ) → IsCut log cut → receivesWithin log cut ≤ maxWorkers * maxEvents
-unfolding receivesWithin receivesOf receiveAt wordSum
+unfolding receivesWithin receivesOf receiveAt received wordSum
 receives-few log ok cut is =
     let sum : receivesWithin log cut ≤ wordSum log cut =
     sum-le (receivesOf log cut) (at cut) (workerCount log)
