@@ -4,7 +4,7 @@ use mathlib.Core.Path.{_≡_, refl, sym, _∙_, ap}
 use mathlib.Core.Logic.{⊎-elim, _≢_}
 use mathlib.Core.List.{List, _∷_}
 use Prim.Native.Nat.{ℕ, suc, _+_, _-_, _*_, _<_, _≤_}
-use Rattle.ranges.proofs.Order.{lt-or-le}
+use Rattle.ranges.proofs.Order.{lt-or-le, eq-or-ne}
 use native.Mathlib.Omega.{arith}
 use borrow.Author.Tests.{le-leb, lt-leb}
 use lib.ListN.{length, drop, length-take, length-drop, List·getD-eq-default}
@@ -47,6 +47,10 @@ module _ (log : Workers) where
   unfolding checkpointCount
   checkpoints-past w h = rw (worker-past w h)
 
+  -- a worker that is not there has no events
+  pub event-outside : (w x : ℕ) → workerCount log ≤ w → eventOf log w x ≡ noEvent
+  event-outside w x h = ⊎-elim (λ none. rw none (event-none w)) (λ some. let z = count-past w h in event-past w x (omega arith)) (eq-or-ne x 0)
+
   pub role-past : (w : ℕ) → workerCount log ≤ w → roleOf log w ≡ 0
   unfolding roleOf
   role-past w h = ap (λ (v : Worker). v .role) (worker-past w h)
@@ -86,6 +90,14 @@ module _ (s : List ℕ) where
       → checkpointOf (workersOf s) w (suc k) ≡ checkpointRecord (checkpointSection s w) k
   unfolding checkpointOf workerOf
   checkpoint-read w k h l = rw (worker-read w h) (getD-tabulate (checkpointRecord (checkpointSection s w)) (field s w checkpointCountField) k initial l)
+
+  -- the numbers of the entry of worker w, which is one of the log's
+  pub entry-count : (w : ℕ) → w < workerCount (workersOf s) → field s w eventCountField ≡ eventCount (workersOf s) w
+  entry-count w h = sym (count-read w (rw size-read at h))
+
+  pub entry-start : (w : ℕ) → w < workerCount (workersOf s) → field s w eventOffsetField ≡ eventStart s w
+  unfolding eventStart entryOrZero
+  entry-start w h = let inside : w < sizeField s = rw size-read at h in rw (lt-leb (sizeField s) w inside)
 
 -- an event or a checkpoint of a worker: the worker is one of the log's
 pub worker-within : (log : Workers) (w k : ℕ) → k < eventCount log w → w < workerCount log
@@ -127,8 +139,7 @@ module _ (s : List ℕ) (ok : layoutRefusal s ≡ 0) where
     event-inside = rw (size-read s) at event-worker
 
     start-read : eventStart s w ≡ field s w eventOffsetField
-    unfolding eventStart entryOrZero
-    start-read = rw (lt-leb (sizeField s) w event-inside)
+    start-read = sym (entry-start s w event-worker)
 
     pub events-within : eventStart s w + eventSize * n ≤ length s
     events-within = rw (start-read, size, count-read s w event-inside) (readable s ok .entry w event-inside .events-end)

@@ -4,7 +4,7 @@ ghost use mathlib.Core.Path.{_≡_};
 ghost use Prim.Native.Nat.{_+_, _*_, _<_, _≤_};
 ghost use lib.ListN.{length};
 ghost use Rattle.log.specs.Limits.{maxWorkers, maxEvents, maxCheckpoints, maxRole};
-ghost use Rattle.log.specs.Model.{workerCount, eventCount, eventOf, checkpointCount, checkpointOf, roleOf, isSend, isUnlogged, isReceive, received, column, unloggedSend};
+ghost use Rattle.log.specs.Model.{noEvent, workerCount, eventCount, eventOf, checkpointCount, checkpointOf, roleOf, isSend, isUnlogged, isReceive, received, column, unloggedSend};
 ghost use Rattle.log.specs.Layout.{formField, sizeField, lengthField, headerOf, field, entryOrZero, section, eventStart, eventRecord, checkpointRecord, workersOf};
 ghost use Rattle.log.specs.Header.{limitFault, outside, sectionFault, entryFault, someEntry, entriesRefusal, layoutRefusal};
 
@@ -329,31 +329,43 @@ pub fn checkpoint_count(log: &[u8], w: usize) -> u32
     entry_or_zero(log, w, CHECKPOINT_COUNT_FIELD)
 }
 
-// Event x of worker w, and no event outside 1 .. its count.
+fn no_event() -> Event
+    ensures answer { λ r. ⌜ r ≡ noEvent ⌝ }
+{
+    Event {
+        kind: 0,
+        peer: 0,
+        spare: 0,
+        send: 0,
+        stamp: 0,
+    }
+}
+
+// Event x of worker w, which is one of the log's, and no event outside 1 .. its count.
+pub fn worker_event(log: &[u8], w: usize, x: u32) -> Event
+    requires { ⌜ (layoutRefusal (now log) ≡ 0) × (w < workerCount (workersOf (now log))) ⌝ }
+    ensures answer { λ r. ⌜ r ≡ eventOf (workersOf (now (log .entry))) w x ⌝ }
+{
+    let count = entry(log, w, EVENT_COUNT_FIELD);
+    if x == 0 {
+        return no_event();
+    }
+    if count < x {
+        return no_event();
+    }
+    let start = entry(log, w, EVENT_OFFSET_FIELD);
+    event_in(log, start as usize, count as usize, (x - 1) as usize)
+}
+
+// Event x of worker w, and no event past the last worker.
 pub fn event_at(log: &[u8], w: usize, x: u32) -> Event
     requires { ⌜ layoutRefusal (now log) ≡ 0 ⌝ }
     ensures answer { λ r. ⌜ r ≡ eventOf (workersOf (now (log .entry))) w x ⌝ }
 {
-    let count = event_count(log, w);
-    if x == 0 {
-        return Event {
-            kind: 0,
-            peer: 0,
-            spare: 0,
-            send: 0,
-            stamp: 0,
-        };
+    if worker_count(log) <= w {
+        return no_event();
     }
-    if count < x {
-        return Event {
-            kind: 0,
-            peer: 0,
-            spare: 0,
-            send: 0,
-            stamp: 0,
-        };
-    }
-    event_in(log, event_start(log, w), count as usize, (x - 1) as usize)
+    worker_event(log, w, x)
 }
 
 // Checkpoint c of worker w: 0 is the initial state, which stands past the last recorded one too.
