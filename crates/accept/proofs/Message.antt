@@ -1,96 +1,113 @@
--- The tests of a message, put alike for a send and a receive, are those of 7, 9 and 10. Assumes nothing.
+-- What an event shows beside the one before it, and what a receive shows beside its send, are together the tests 7 to 10. Assumes nothing.
 use mathlib.Core.Path.{_≡_, refl, sym, _∙_}
 use mathlib.Core.Bool.{Bool, true, false, not, cond, _&&_, _||_, false≢true}
 use mathlib.Core.Logic.{⊎-elim}
-use Prim.Native.Nat.{ℕ, _+_, _-_, _<_, _≤_}
+use Prim.Native.Nat.{ℕ, _<_, _≤_}
 use native.Mathlib.Omega.{arith}
-use borrow.Author.Tests.{leb-false, eq-eqb, ne-eqb, lt-ltb, le-ltb, lt-leb, le-leb}
+use borrow.Author.Tests.{leb-false, eqb-true, eq-eqb, lt-ltb, le-ltb, not-false}
 use lib.Dec.{eqb, leb, ltb}
-use Rattle.ranges.proofs.Order.{lt-or-le, eq-or-ne}
+use Rattle.ranges.proofs.Order.{lt-or-le}
+use Rattle.ranges.proofs.Bools.{or-false-left, or-false-right}
 use Rattle.log.specs.declared.Event.{Event}
-use Rattle.log.specs.Model.{Workers, eventCount, eventOf, isSend, isReceive, received}
+use Rattle.log.specs.Model.{Workers, workerCount, eventCount, eventOf, isSend, isReceive, received}
 use Rattle.log.proofs.Read.{event-past}
 use Rattle.accept.specs.Records.{kindFault, peerFault, sendFault, fieldFault, stampFault, sendOf, sourceFault, orderFault, anyFault}
-use Rattle.accept.specs.Inner.Message.{names, namedWorker, namedIndex, named, messageFault}
+use Rattle.accept.specs.Inner.Message.{names, ownFault, receiveFault}
 use Rattle.accept.proofs.Accepted.{not-send}
 
--- the same added to both sides changes no test
-same-added : (a b c : ℕ) → eqb (a + c) (b + c) ≡ eqb a b
-same-added a b c = ⊎-elim (λ q. rw (eq-eqb a b q, eq-eqb (a + c) (b + c) (omega arith))) (λ q. rw (ne-eqb a b q, ne-eqb (a + c) (b + c) (λ r. q (omega arith)))) (eq-or-ne a b)
-
--- one less is below exactly when it is at most
-one-less : (a b : ℕ) → 0 < a → ltb (a - 1) b ≡ leb a b
-one-less a b h = ⊎-elim (λ l. rw (lt-leb a b l, le-ltb (a - 1) b (omega arith))) (λ l. rw (le-leb a b l, lt-ltb (a - 1) b (omega arith))) (lt-or-le b a)
-
-not-both : (a b : Bool) → not (a && b) ≡ (not a || not b)
-not-both true b = refl
-not-both false b = refl
-
--- the worker that is named is w or the peer
-pub named-near : (w : ℕ) (e : Event) → namedWorker w e ≤ w + e .peer
-unfolding namedWorker
-named-near w e = go (eqb (e .send) 0)
-  where
-    go : (b : Bool) → cond b w (e .peer) ≤ w + e .peer
-    go true = omega arith
-    go false = omega arith
-
-module _ (log : Workers) (w k : ℕ) (e : Event) (own : e ≡ eventOf log w (k + 1)) (positive : 0 < e .stamp) where
-  abbrev Same : Type 0
-  Same = messageFault log w (k + 1) e ≡ (sendFault log e || sourceFault log w e || orderFault log e)
-
-  send-none : isSend e ≡ true → isReceive e ≡ false → eqb (e .send) 0 ≡ true → Same
-  unfolding messageFault names namedWorker namedIndex named received sendFault sourceFault orderFault
-  send-none send other none = rw (none, other, ← own, send, eq-eqb (e .peer + w) (w + e .peer) (omega arith), le-ltb (e .stamp - 0) (e .stamp) (omega arith))
-
-  send-names : isSend e ≡ true → isReceive e ≡ false → eqb (e .send) 0 ≡ false → Same
-  unfolding messageFault names received sendFault
-  send-names send other some = rw (some, other, send)
-
-  receive-none : isSend e ≡ false → isReceive e ≡ true → eqb (e .send) 0 ≡ true → Same
-  unfolding messageFault names received sendFault
-  receive-none other receive none = rw (none, other, receive)
-
-  receive-past : isSend e ≡ false → isReceive e ≡ true → eqb (e .send) 0 ≡ false → eventCount log (e .peer) < e .send → Same
-  unfolding messageFault names namedWorker namedIndex named received sendFault isSend
-  receive-past other receive some past = rw (some, other, receive, lt-ltb _ _ past, event-past log _ _ past)
-
-  receive-within : isSend e ≡ false → isReceive e ≡ true → eqb (e .send) 0 ≡ false → e .send ≤ eventCount log (e .peer) → Same
-  unfolding messageFault names namedWorker namedIndex named received sendFault sourceFault orderFault sendOf
-  receive-within other receive some within =
-      rw (some, other, receive, le-ltb _ _ within, same-added (sendOf log e .peer) w (e .peer), one-less (e .stamp) (sendOf log e .stamp) positive, not-both (isSend (sendOf log e)) (eqb (sendOf log e .peer) w))
-
-  message-same : kindFault e ≡ false → Same
-  unfolding kindFault
-  message-same kind = go (isSend e) refl (isReceive e) refl (eqb (e .send) 0) refl kind
-    where
-      go : (a : Bool) → isSend e ≡ a → (b : Bool) → isReceive e ≡ b → (c : Bool) → eqb (e .send) 0 ≡ c → not (a || b) ≡ false → Same
-      go true p true q c r f = absurd (false≢true (sym (not-send e q) ∙ p))
-      go true p false q true r f = send-none p q r
-      go true p false q false r f = send-names p q r
-      go false p true q true r f = receive-none p q r
-      go false p true q false r f = ⊎-elim (receive-past p q r) (receive-within p q r) (lt-or-le (eventCount log (e .peer)) (e .send))
-      go false p false q c r f = absurd (false≢true (sym f))
-
--- of four tests, the second decides, or is left out
-second-true : (a b c : Bool) → (a || true || b || c) ≡ true
-second-true true b c = refl
-second-true false b c = refl
-
-second-false : (a b c : Bool) → (a || false || b || c) ≡ (a || b || c)
-second-false true b c = refl
-second-false false b c = refl
-
 module _ (log : Workers) (w k : ℕ) (e : Event) where
-  -- a stamp that does not rise is a fault
-  pub stamp-decides : stampFault log w k e ≡ true → anyFault log w k e ≡ true
-  unfolding anyFault
-  stamp-decides stamp = rw stamp (second-true (fieldFault log w e) (sourceFault log w e) (orderFault log e))
+  -- the parts of an event's own test, where it passes
+  record Passed : Type 0 where
+    pub spare : eqb (e .spare) 0 ≡ true
+    pub kind : kindFault e ≡ false
+    pub peer : peerFault log w e ≡ false
+    pub stamp : stampFault log w k e ≡ false
+    pub named : eqb (names e) (received e) ≡ true
 
-  -- where spare, kind, peer and stamp are as they should be, the tests of the message are all that is left
-  pub message-decides : e ≡ eventOf log w (k + 1) → eqb (e .spare) 0 ≡ true → kindFault e ≡ false → peerFault log w e ≡ false → stampFault log w k e ≡ false
-      → messageFault log w (k + 1) e ≡ anyFault log w k e
-  unfolding anyFault fieldFault stampFault
-  message-decides own spare kind peer stamp =
-      let rises = leb-false (e .stamp) (eventOf log w k .stamp) stamp in
-      rw (spare, kind, peer, stamp) (message-same log w k e own (omega arith) kind ∙ sym (second-false (sendFault log e) (sourceFault log w e) (orderFault log e)))
+  passed : ownFault log w (eventOf log w k .stamp) e ≡ false → Passed
+  unfolding ownFault stampFault
+  passed f =
+      let A = not (eqb (e .spare) 0) in
+      let B = kindFault e in
+      let C = peerFault log w e in
+      let D = leb (e .stamp) (eventOf log w k .stamp) in
+      let E = not (eqb (names e) (received e)) in
+      let four = or-false-left (A || B || C || D) E f in
+      let three = or-false-left (A || B || C) D four in
+      let two = or-false-left (A || B) C three in
+      record {
+        spare = not-false _ (or-false-left A B two);
+        kind = or-false-right A B two;
+        peer = or-false-right (A || B) C three;
+        stamp = or-false-right (A || B || C) D four;
+        named = not-false _ (or-false-right (A || B || C || D) E f);
+      }
+
+  -- where it passes, what is left of test 7 is that a receive names no event past its peer's last one
+  left-of-7 : Passed → sendFault log e ≡ (isReceive e && ltb (eventCount log (e .peer)) (e .send))
+  unfolding sendFault kindFault names received
+  left-of-7 p = go (isSend e) refl (isReceive e) refl (eqb (e .send) 0) refl (p .kind) (p .named)
+    where
+      go : (a : Bool) → isSend e ≡ a → (b : Bool) → isReceive e ≡ b → (c : Bool) → eqb (e .send) 0 ≡ c → not (a || b) ≡ false → eqb (cond c 0 1) (cond b 1 0) ≡ true
+          → cond a (not c) (c || ltb (eventCount log (e .peer)) (e .send)) ≡ (b && ltb (eventCount log (e .peer)) (e .send))
+      go true p true q c r kind named = absurd (false≢true (sym (not-send e q) ∙ p))
+      go true p false q true r kind named = refl
+      go true p false q false r kind named = absurd (false≢true named)
+      go false p true q true r kind named = absurd (false≢true named)
+      go false p true q false r kind named = refl
+      go false p false q c r kind named = absurd (false≢true (sym kind))
+
+  -- an event that is no receive and whose own tests pass has no fault
+  pub passes : ownFault log w (eventOf log w k .stamp) e ≡ false → isReceive e ≡ false → anyFault log w k e ≡ false
+  unfolding anyFault fieldFault sourceFault orderFault
+  passes f other = let p = passed f in rw (p .spare, p .kind, p .peer, p .stamp, left-of-7 p, other)
+
+  -- a receive whose own tests pass has one exactly beside its send
+  pub receive-decides : ownFault log w (eventOf log w k .stamp) e ≡ false → isReceive e ≡ true → receiveFault log w e ≡ anyFault log w k e
+  unfolding receiveFault anyFault fieldFault sourceFault orderFault sendOf isSend
+  receive-decides f receive =
+      let p = passed f in
+      ⊎-elim
+      (λ past. rw (p .spare, p .kind, p .peer, p .stamp, left-of-7 p, receive, lt-ltb (eventCount log (e .peer)) (e .send) past, event-past log (e .peer) (e .send) past))
+      (λ within. rw (p .spare, p .kind, p .peer, p .stamp, left-of-7 p, receive, le-ltb (eventCount log (e .peer)) (e .send) within))
+      (lt-or-le (eventCount log (e .peer)) (e .send))
+
+  -- an event that passes 7 names another exactly when it is a receive
+  named-by-7 : kindFault e ≡ false → sendFault log e ≡ false → eqb (names e) (received e) ≡ true
+  unfolding kindFault sendFault names received
+  named-by-7 = go (isSend e) refl (isReceive e) refl (eqb (e .send) 0)
+    where
+      go : (a : Bool) → isSend e ≡ a → (b : Bool) → isReceive e ≡ b → (c : Bool) → not (a || b) ≡ false
+          → cond a (not c) (c || ltb (eventCount log (e .peer)) (e .send)) ≡ false → eqb (cond c 0 1) (cond b 1 0) ≡ true
+      go true p true q c kind send = absurd (false≢true (sym (not-send e q) ∙ p))
+      go true p false q true kind send = refl
+      go true p false q false kind send = absurd (false≢true (sym send))
+      go false p true q true kind send = absurd (false≢true (sym send))
+      go false p true q false kind send = refl
+      go false p false q c kind send = absurd (false≢true (sym kind))
+
+  own-passes : anyFault log w k e ≡ false → ownFault log w (eventOf log w k .stamp) e ≡ false
+  unfolding anyFault fieldFault ownFault stampFault
+  own-passes f =
+      let A = not (eqb (e .spare) 0) in
+      let B = kindFault e in
+      let C = peerFault log w e in
+      let D = sendFault log e in
+      let S = leb (e .stamp) (eventOf log w k .stamp) in
+      let two = or-false-left (A || B || C || D || S) (sourceFault log w e) (or-false-left (A || B || C || D || S || sourceFault log w e) (orderFault log e) f) in
+      let seven = or-false-left (A || B || C || D) S two in
+      let front = or-false-left (A || B || C) D seven in
+      rw (front, or-false-right (A || B || C || D) S two, named-by-7 (or-false-right A B (or-false-left (A || B) C front)) (or-false-right (A || B || C) D seven))
+
+  -- a fault of its own is one of these
+  pub own-decides : ownFault log w (eventOf log w k .stamp) e ≡ true → anyFault log w k e ≡ true
+  own-decides f = go (anyFault log w k e) refl
+    where
+      go : (b : Bool) → anyFault log w k e ≡ b → anyFault log w k e ≡ true
+      go true q = q
+      go false q = absurd (false≢true (sym (own-passes q) ∙ f))
+
+  -- the peer of an event whose own tests pass is a worker
+  pub own-peer : ownFault log w (eventOf log w k .stamp) e ≡ false → e .peer < workerCount log
+  unfolding peerFault
+  own-peer f = leb-false _ _ (or-false-right (eqb (e .peer) w) (leb (workerCount log) (e .peer)) (passed f .peer))

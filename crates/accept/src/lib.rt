@@ -3,17 +3,19 @@
 use log::Checkpoint;
 use log::Event;
 ghost use mathlib.Core.Path.{_≡_};
-ghost use mathlib.Core.Bool.{false};
-ghost use Prim.Native.Nat.{_+_, _<_, _≤_, min};
-ghost use Rattle.ranges.specs.Fold.{maxBelow};
+ghost use mathlib.Core.Bool.{true, false};
+ghost use Prim.Native.Nat.{ℕ, _+_, _<_, _≤_, min};
+ghost use lib.ListN.{length};
+ghost use Rattle.ranges.specs.Fold.{anyBelow, maxBelow};
+ghost use Rattle.lent.specs.Lent.{at};
 ghost use Rattle.log.specs.Header.{layoutRefusal};
 ghost use Rattle.log.specs.Limits.{maxWorkers, maxEvents};
-ghost use Rattle.log.specs.Model.{workerCount, eventCount, eventOf};
+ghost use Rattle.log.specs.Model.{workerCount, eventCount, eventOf, isReceive};
 ghost use Rattle.log.specs.Layout.{workersOf, logOf};
 ghost use Rattle.accept.specs.Records.{kindFault, peerFault, sendFault, fieldFault, stampFault, sendOf, sourceFault, orderFault};
-ghost use Rattle.accept.specs.Records.{anyFault, eventFault, checkpointFault, recordFault, recordCount, workerFault, someRecord};
-ghost use Rattle.accept.specs.Inner.Message.{names, namedWorker, namedIndex, named, messageFault};
-ghost use Rattle.accept.specs.Inner.Blocks.{blockSize, faultWithin, someWithin};
+ghost use Rattle.accept.specs.Records.{eventFault, checkpointFault, recordFault, recordCount, workerFault, someRecord};
+ghost use Rattle.accept.specs.Inner.Message.{names, ownFault, receiveFault};
+ghost use Rattle.accept.specs.Inner.Blocks.{blockSize, faultWithin, someWithin, listedFault, IsReceived, Lists};
 ghost use Rattle.accept.specs.Refusal.{eventsRefusal, contentRefusal, logRefusal};
 
 // Whether the kind is none of 1, 2 and 3.
@@ -124,58 +126,10 @@ fn names(e: Event) -> u32
     1
 }
 
-// The worker of the event that an event of worker w names; w where it names none.
-fn named_worker(w: usize, e: Event) -> usize
-    ensures answer { λ r. ⌜ r ≡ namedWorker w e ⌝ }
-{
-    if e.send == 0 {
-        return w;
-    }
-    e.peer as usize
-}
-
-// The index of the event that event x names; x where it names none.
-fn named_index(x: u32, e: Event) -> u32
-    ensures answer { λ r. ⌜ r ≡ namedIndex x e ⌝ }
-{
-    if e.send == 0 {
-        return x;
-    }
-    e.send
-}
-
-// The event that event x of worker w, which is e, names; itself where it names none.
-fn named(log: &[u8], w: usize, x: u32, e: Event) -> Event
+// Whether an event of worker w fails a test that looks at no event but the one before it, whose stamp is `before`.
+fn own_fault(log: &[u8], w: usize, before: u32, e: Event) -> bool
     requires { ⌜ layoutRefusal (now log) ≡ 0 ⌝ }
-    ensures answer { λ r. ⌜ r ≡ named (workersOf (now (log .entry))) w x e ⌝ }
-{
-    log::event_at(log, named_worker(w, e), named_index(x, e))
-}
-
-// What is left of the tests 7, 9 and 10 on event x of worker w, which is e. Kinds are random in a run, so there is no branch on the kind.
-fn message_fault(log: &[u8], w: usize, x: u32, e: Event) -> bool
-    requires { ⌜ (layoutRefusal (now log) ≡ 0) × (w < maxWorkers) × (0 < e .stamp) ⌝ }
-    ensures answer { λ r. ⌜ r ≡ messageFault (workersOf (now (log .entry))) w x e ⌝ }
-{
-    let received = log::received(e);
-    if names(e) != received {
-        return true;
-    }
-    let source = named(log, w, x, e);
-    if !log::is_send(source) {
-        return true;
-    }
-    if source.peer as usize + named_worker(w, e) != w + e.peer as usize {
-        return true;
-    }
-    e.stamp - received < source.stamp
-}
-
-// Whether event k + 1 of worker w, which is e, fails one of the tests 7 to 10; `before` is the stamp of event k.
-fn any_fault(log: &[u8], w: usize, k: u32, before: u32, e: Event) -> bool
-    requires { ⌜ (layoutRefusal (now log) ≡ 0) × (k < eventCount (workersOf (now log)) w)
-        × (before ≡ eventOf (workersOf (now log)) w k .stamp) × (e ≡ eventOf (workersOf (now log)) w (k + 1)) ⌝ }
-    ensures answer { λ r. ⌜ r ≡ anyFault (workersOf (now (log .entry))) w k e ⌝ }
+    ensures answer { λ r. ⌜ r ≡ ownFault (workersOf (now (log .entry))) w before e ⌝ }
 {
     if e.spare != 0 {
         return true;
@@ -189,7 +143,22 @@ fn any_fault(log: &[u8], w: usize, k: u32, before: u32, e: Event) -> bool
     if e.stamp <= before {
         return true;
     }
-    message_fault(log, w, k + 1, e)
+    names(e) != log::received(e)
+}
+
+// Whether a receive of worker w names an event that is no send, none to w, or none before it: tests 9 and 10.
+fn receive_fault(log: &[u8], w: usize, e: Event) -> bool
+    requires { ⌜ (layoutRefusal (now log) ≡ 0) × (isReceive e ≡ true) × (e .peer < workerCount (workersOf (now log))) ⌝ }
+    ensures answer { λ r. ⌜ r ≡ receiveFault (workersOf (now (log .entry))) w e ⌝ }
+{
+    let send = log::worker_event(log, e.peer as usize, e.send);
+    if !log::is_send(send) {
+        return true;
+    }
+    if send.peer as usize != w {
+        return true;
+    }
+    e.stamp <= send.stamp
 }
 
 // The events of each worker that the pass for any fault takes in turn. What a receive names was sent shortly before it, in a block that was
@@ -208,28 +177,79 @@ fn block_end(first: u32, count: u32) -> u32
     end
 }
 
+// The receives of a block that are listed, where none of its events fails a test of its own.
+struct Listed {
+    fault: bool,
+    count: usize,
+}
+
+// Lists the receives among the events after the first `first` and up to `end` of worker w. Kinds are random in a run, so there is no branch
+// on the kind: each event is written where the next receive has its place.
+fn list_receives(
+    log: &[u8],
+    w: usize,
+    first: u32,
+    end: u32,
+    list: &mut [u32; BLOCK as usize],
+) -> Listed
+    requires { ⌜ (layoutRefusal (now log) ≡ 0) × (first ≤ end) × (end ≤ eventCount (workersOf (now log)) w) × (end ≤ first + blockSize) × (length (now list) ≡ blockSize) ⌝ }
+    ensures found { λ r. ⌜ (r .fault ≡ true → anyBelow (recordFault 0 (workersOf (now (log .entry))) w) end ≡ true) ⌝ }
+    ensures listed { λ r. ⌜ (r .fault ≡ false → Lists (workersOf (now (log .entry))) w first end (now (list .exit)) (r .count)) ⌝ }
+{
+    let start = log::event_start(log, w);
+    let events = log::event_count(log, w) as usize;
+    let mut before = log::event_at(log, w, first).stamp;
+    let mut count: usize = 0;
+    let mut k = first;
+    while k < end {
+        let e = log::event_in(log, start, events, k as usize);
+        if own_fault(log, w, before, e) {
+            return Listed { fault: true, count };
+        }
+        list[count] = k;
+        count += log::received(e) as usize;
+        before = e.stamp;
+        k += 1;
+    }
+    Listed {
+        fault: false,
+        count,
+    }
+}
+
+// Whether one of the first `count` listed receives of worker w fails test 9 or 10.
+fn receives_fault(log: &[u8], w: usize, list: &[u32; BLOCK as usize], count: usize) -> bool
+    requires { ⌜ (layoutRefusal (now log) ≡ 0) × (count ≤ blockSize) × ((j : ℕ) → j < count → IsReceived (workersOf (now log)) w (at (now list) j)) ⌝ }
+    ensures answer { λ r. ⌜ r ≡ anyBelow (listedFault (workersOf (now (log .entry))) w (now (list .entry))) count ⌝ }
+{
+    let start = log::event_start(log, w);
+    let events = log::event_count(log, w) as usize;
+    let mut j: usize = 0;
+    while j < count {
+        let e = log::event_in(log, start, events, list[j] as usize);
+        if receive_fault(log, w, e) {
+            return true;
+        }
+        j += 1;
+    }
+    false
+}
+
 // Whether an event of worker w, up to the end of the block from `first` on, fails one of the tests 7 to 10. None before `first` does.
 fn events_fault(log: &[u8], w: usize, first: u32) -> bool
     requires { ⌜ (layoutRefusal (now log) ≡ 0) × (first ≤ maxEvents) × (faultWithin first (workersOf (now log)) w ≡ false) ⌝ }
     ensures answer { λ r. ⌜ r ≡ faultWithin (first + blockSize) (workersOf (now (log .entry))) w ⌝ }
 {
-    let start = log::event_start(log, w);
     let count = log::event_count(log, w);
     if count <= first {
         return false;
     }
-    let end = block_end(first, count);
-    let mut before = log::event_at(log, w, first).stamp;
-    let mut k = first;
-    while k < end {
-        let e = log::event_in(log, start, count as usize, k as usize);
-        if any_fault(log, w, k, before, e) {
-            return true;
-        }
-        before = e.stamp;
-        k += 1;
+    let mut list = [0u32; BLOCK as usize];
+    let listed = list_receives(log, w, first, block_end(first, count), &mut list);
+    if listed.fault {
+        return true;
     }
-    false
+    receives_fault(log, w, &list, listed.count)
 }
 
 // The same for the block of every worker.
