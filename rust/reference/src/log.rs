@@ -197,39 +197,53 @@ fn layout(log: &[u8]) -> Result<Log<'_>, u32> {
     Ok(Log { workers })
 }
 
-/// Whether some event of the log has a fault of 7 to 10. A send is compared with itself where a receive is compared with the send that
-/// it names, so that nothing branches on the kind, which is random in a run.
+/// The events of each worker that are tested in turn: what a receive names was sent shortly before it and is still in the cache.
+const BLOCK: usize = 128;
+
+/// Whether some event of the log has a fault of 7 to 10.
 fn some_event_faulty(log: &Log) -> bool {
+    let longest = log.workers.iter().map(|w| w.events.len()).max();
+    (0..longest.unwrap_or(0))
+        .step_by(BLOCK)
+        .any(|first| (0..log.size()).any(|w| block_faulty(log, w, first)))
+}
+
+/// Whether an event of worker `w` in the block after its first `first` events has one. The receives are noted without a branch on the
+/// kind, which is random in a run, and then compared with the sends that they name.
+fn block_faulty(log: &Log, w: usize, first: usize) -> bool {
+    let events = log.workers[w].events;
+    let Some(rest) = events.get(first..) else {
+        return false;
+    };
+    let block = &rest[..rest.len().min(BLOCK)];
     let size = log.size();
-    log.workers.iter().enumerate().any(|(w, worker)| {
-        let mut previous = 0;
-        worker.events.iter().zip(1..).any(|(record, index)| {
-            let event = Event::of(record);
-            let peer = event.other();
-            let receives = u32::from(event.kind >> 1);
-            let names = event.send != 0;
-            if event.spare != 0
-                || !(1..=3).contains(&event.kind)
-                || peer == w
-                || peer >= size
-                || u32::from(names) != receives
-                || event.stamp <= previous
-            {
-                return true;
-            }
-            previous = event.stamp;
-            let (at, named) = if names {
-                (peer, event.send)
-            } else {
-                (w, index)
-            };
-            let sender = &log.workers[at];
-            if named > sender.count() {
-                return true;
-            }
-            let send = sender.event(named);
-            send.kind != 1 || send.other() + at != w + peer || send.stamp > event.stamp - receives
-        })
+    let mut previous = first.checked_sub(1).map_or(0, |k| word(&events[k], 8));
+    let mut receives = [0; BLOCK];
+    let mut count = 0;
+    for (at, record) in block.iter().enumerate() {
+        let event = Event::of(record);
+        let receive = usize::from(event.kind >> 1);
+        if event.spare != 0
+            || !(1..=3).contains(&event.kind)
+            || event.other() == w
+            || event.other() >= size
+            || usize::from(event.send != 0) != receive
+            || event.stamp <= previous
+        {
+            return true;
+        }
+        receives[count] = at;
+        count += receive;
+        previous = event.stamp;
+    }
+    receives[..count].iter().any(|&at| {
+        let event = Event::of(&block[at]);
+        let sender = &log.workers[event.other()];
+        if event.send > sender.count() {
+            return true;
+        }
+        let send = sender.event(event.send);
+        send.kind != 1 || send.other() != w || event.stamp <= send.stamp
     })
 }
 
