@@ -177,7 +177,7 @@ fn block_end(first: u32, count: u32) -> u32
     end
 }
 
-// The receives of a block that are listed, where none of its events fails a test of its own.
+// Whether an event of a block fails a test of its own; else how many of its events are receives.
 struct Listed {
     fault: bool,
     count: usize,
