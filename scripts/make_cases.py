@@ -1,19 +1,20 @@
 #!/usr/bin/env python3
-"""Writes the case files of the program `cases`, its arguments and its expected output.
+"""Writes the case files of the program `cases`, its arguments, its calls and its expected output.
 
     scripts/make_cases.py            write the files
     scripts/make_cases.py --check    fail if a stored file is not what would be written
 
 A case file is an input of the program `plan`: worker, event, then the log. Each case below states its name, the number
 by which document 01, "Refused by the input", refuses its log (0: accepted), and the log. The number is written by hand,
-and reference.py must give the same. The expected output is that of expected.py.
+and reference.py must give the same. The calls are those of calls.py, the expected output is that of expected.py.
 """
 
 import os
 import sys
 
 import reference
-from expected import IDENTIFIERS, case_lines
+from calls import listed
+from expected import case_lines
 from logs import Worker, build, case_file, cut_to, extended, tube
 from reference import MAX_WORKERS
 
@@ -24,6 +25,9 @@ CRATE = os.path.join(os.path.dirname(os.path.abspath(__file__)), "..", "crates",
 
 # The largest input of `plan`.
 LARGEST = 65536
+
+# The identifiers that are tested for a covering set where a case states which have one.
+IDENTIFIERS = (0, 1, 2, 3, 4294967295)
 
 # The content of each case, by its name, in the order in which they are run; and the line of this script that makes it.
 CONTENT = {}
@@ -689,13 +693,14 @@ def files():
     """The content of each file, by its path in the crate."""
     made = {os.path.join("data", name): content for name, content in CONTENT.items()}
     made["args"] = "".join(name + "\n" for name in CONTENT).encode()
+    made["stdin"] = b"".join(listed(content) for content in CONTENT.values())
     made["stdout"] = "".join(case_lines(name, content) for name, content in CONTENT.items()).encode()
     return made
 
 
 def stored():
     """The files of the crate that this script writes, as they are."""
-    paths = ["args", "stdout"]
+    paths = ["args", "stdin", "stdout"]
     if os.path.isdir(os.path.join(CRATE, "data")):
         paths += [os.path.join("data", name) for name in os.listdir(os.path.join(CRATE, "data"))]
     found = {}

@@ -5,13 +5,12 @@
     scripts/show.py NAME     one case, on 120 columns
 
 The expected lines are those of expected.py. The others are what target/bin/cases, as the last `rt check` built it, prints for
-the case as make_cases.py has it now; it need not be stored yet. Where a line has words for each worker they stand below it as
-`worker: words`, those of a list of steps as `call: words`, and those of changed words as `word: words`; expected.py says which
-words a line has. A differing line's first row and each of its rows that differ begin with `!`, and the exit status is 1.
+the case as make_cases.py has it now; it need not be stored yet. Each call of a line stands on a row of its own, after its label,
+with the words that it changes and what it returns; expected.py says how. A row that differs begins with `!`, and then the exit
+status is 1.
 """
 
 import ast
-import difflib
 import inspect
 import itertools
 import os
@@ -25,7 +24,8 @@ import textwrap
 import logs
 import make_cases
 import reference
-from expected import CALLS, case_lines, case_of, size
+from calls import LINE, NAMES, case_of, labelled, listed
+from expected import case_lines
 
 PROGRAM = os.path.abspath(os.path.join(make_cases.CRATE, "..", "..", "target", "bin", "cases"))
 
@@ -90,44 +90,25 @@ def log_rows(data):
 # ---- The lines
 
 
-def listed(n):
-    """What stands before words that are listed, the number of entries, and the words of each."""
-    return (
-        (r"log way \d+ returns \d+", 5 * n, 1),
-        (r"(?:vector|upper_line|lower_cut|positions) way \d+ returns \d+", n, 1),
-        (r"(?:plan|restore) way \d+ returns \d+", n, 3),
-        (r"replay way \d+ returns \d+", CALLS, n + 1),
-        (r"by \d+", 5 * n, 6),
-        (r"list \d+", 8 * (n + 2), 2),
-    )
+def calls_in(line):
+    """What stands before the calls of a line, and the text of each call after its name."""
+    head, *texts = re.split(r" (?:%s) +(?=[^ ])" % "|".join(NAMES), line)
+    return head, texts
 
 
-def parts(line, n):
-    """The line without its listed words, and the entries of each of its lists."""
-    for before, count, each in listed(n):
-        found = re.match(r"(\S+ %s)((?:,? \d+){%d})$" % (before, count * each), line)
-        if found:
-            words = found.group(2).replace(",", "").split()
-            return found.group(1) + " ..", ["%d: %s" % (k, " ".join(words[k * each:(k + 1) * each])) for k in range(count)]
-    return line, []
+def labels_of(content):
+    """The labels of the calls of each line."""
+    lines = [[]]
+    for place, label in labelled(content):
+        if place == LINE:
+            lines.append([])
+        else:
+            lines[-1].append(label)
+    return lines
 
 
-def grid(entries, cell, width):
-    """The entries in cells, as many to a row as there is room for."""
-    many = max(1, (width - 4) // (cell + 2))
-    for k in range(0, len(entries), many):
-        row = "    " + "  ".join(entry.ljust(cell) for entry in entries[k:k + many]).rstrip()
-        yield from wrapped(row, width, " " * 8)
-
-
-def rows_of(line, n, cell, width):
-    text, entries = parts(line, n)
-    return wrapped(text, width) + list(grid(entries, cell, width))
-
-
-def cell_of(lines, n):
-    """The width of the cells of a list, for both sides alike."""
-    return max((len(entry) for line in lines for entry in parts(line, n)[1]), default=0)
+def rows_of(label, text, width):
+    return wrapped("  %s: %s" % (label, text), width, " " * 8) if text else []
 
 
 def given(name):
@@ -137,44 +118,45 @@ def given(name):
     with tempfile.TemporaryDirectory() as room:
         with open(os.path.join(room, name), "wb") as file:
             file.write(make_cases.CONTENT[name])
-        return subprocess.run([PROGRAM, name], cwd=room, stdout=subprocess.PIPE).stdout.decode()
+        calls = listed(make_cases.CONTENT[name])
+        return subprocess.run([PROGRAM, name], cwd=room, input=calls, stdout=subprocess.PIPE).stdout.decode()
 
 
-def paired(expected, found):
-    """The lines of both sides; one that the other side does not have stands beside an empty one."""
-    for _, first, end, other_first, other_end in difflib.SequenceMatcher(None, expected, found, False).get_opcodes():
-        yield from itertools.zip_longest(expected[first:end], found[other_first:other_end], fillvalue="")
+def print_beside(left, right):
+    """Prints two texts, of some rows each, side by side. A row that differs begins with `!`."""
+    for row, other in itertools.zip_longest(left, right, fillvalue=""):
+        print("%s %s | %s" % (" " if row == other else "!", row.ljust(SIDE), other))
 
 
-def compare(expected, found, n):
+def compare(expected, found, labels):
     """Prints the lines side by side; gives the number of those that differ."""
-    print("  %s | %s" % ("expected".ljust(SIDE), "given"))
-    pairs = list(paired(expected, found))
-    for pair in pairs:
-        cell = cell_of(pair, n)
-        sides = [rows_of(line, n, cell, SIDE) for line in pair]
-        for k, (left, right) in enumerate(itertools.zip_longest(*sides, fillvalue="")):
-            differs = left != right or (k == 0 and pair[0] != pair[1])
-            print("%s %s | %s" % ("!" if differs else " ", left.ljust(SIDE), right))
-    differing = sum(left != right for left, right in pairs)
-    print("%d lines, %d of them differ" % (len(pairs), differing))
+    print("  %s | given" % "expected".ljust(SIDE))
+    for line, other, names in itertools.zip_longest(expected, found, labels, fillvalue=""):
+        sides = [calls_in(side) for side in (line, other)]
+        print_beside(*([head] for head, _ in sides))
+        for label, *texts in itertools.zip_longest(names, *(texts for _, texts in sides), fillvalue=""):
+            print_beside(*(rows_of(label, text, SIDE) for text in texts))
+    differing = sum(line != other for line, other in itertools.zip_longest(expected, found))
+    print("%d lines, %d of them differ" % (max(len(expected), len(found)), differing))
     return differing
 
 
 def show(name):
     content = make_cases.CONTENT[name]
     log, worker, event = case_of(content)
-    n = size(log)
     print("%s\n  event %d of worker %d; made at line %d of scripts/make_cases.py" % (name, event, worker, make_cases.LINE[name]))
     for line in made_by(name):
         print("\n".join(wrapped("  " + line, WIDTH, " " * 8)))
     print("\n" + "\n".join(log_rows(log)) + "\n")
-    expected, found = case_lines(name, content).splitlines(), given(name)
+    expected, found, labels = case_lines(name, content).splitlines(), given(name), labels_of(content)
     if found is not None:
-        return compare(expected, found.splitlines(), n)
+        return compare(expected, found.splitlines(), labels)
     print("target/bin/cases is not built (rt check cases builds it): the expected lines alone")
-    for line in expected:
-        print("\n".join("  " + row for row in rows_of(line, n, cell_of([line], n), WIDTH)))
+    for line, names in zip(expected, labels):
+        head, texts = calls_in(line)
+        print("  " + head)
+        for label, text in zip(names, texts):
+            print("\n".join("  " + row for row in rows_of(label, text, WIDTH)))
     return 0
 
 

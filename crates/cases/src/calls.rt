@@ -1,134 +1,140 @@
-// The calls, each with fresh words lent in a way.
+// The calls on the numbers given. Each function prints the words that its call changes, and gives what the call returned.
 
-use super::words;
-use super::words::ANSWERS;
-use super::words::CUT;
-use super::words::POSITIONS;
-use super::words::SCRATCH;
-use super::words::WORDS;
-ghost use Prim.Native.Nat.{_≤_};
-ghost use Rattle.log.specs.Limits.{maxWorkers};
+use super::numbers;
+use super::numbers::ANSWERS_AT;
+use super::numbers::LIST_AT;
+use super::numbers::READ_AT;
+use super::numbers::SIZE;
+use super::numbers::WRITTEN_AT;
+use super::numbers::part;
+use super::text;
+use super::text::TOTALS;
+use super::text::UNTOUCHED;
+use super::text::print_changes;
 
-// The step calls of a list that is lent with a plan.
-const STEP_CALLS: usize = 32;
+// A new line has this number, and the calls have those below it.
+const LINE: usize = 10;
 
-// The upper line, or the vector.
-pub(crate) fn run_line(
-    name: &[u8],
-    call: &[u8],
-    is_upper: bool,
-    log: &[u8],
-    worker: u32,
-    event: u32,
-    n: usize,
-    way: u32,
-) {
-    let mut words = words::fillers();
-    let lent = words::part(&mut words, 0, n, CUT, way);
-    let number = if is_upper {
-        planner::upper_line(log, worker, event, lent)
-    } else {
-        planner::vector(log, worker, event, lent)
+pub const ENTRIES: usize = LINE + 1;
+
+// The calls that write words of one kind. `value` is the worker, or the identifier of a covering set.
+fn run_one(log: &[u8], event: u32, given: [u32; SIZE], call: usize, value: u32) -> u32 {
+    let mut read = given;
+    let mut written = given;
+    let words = part(&mut read, numbers::READ, READ_AT);
+    let lent = part(&mut written, numbers::WRITTEN, WRITTEN_AT);
+    let number = match call {
+        0 => planner::log_refusal(log),
+        1 => planner::vector(log, value, event, lent),
+        2 => planner::upper_line(log, value, event, lent),
+        3 => planner::covers(log, value, lent),
+        4 => planner::cut_test(log, words, lent),
+        _ => planner::step(log, words, lent, value),
     };
-    words::print_line(name, call, way, number, &words, 0);
+    print_changes(b'w', WRITTEN_AT, given, written);
+    number
 }
 
-// The plan, which needs 3 × n words, or the lower cut, which needs n.
-pub(crate) fn run_search(
-    name: &[u8],
-    call: &[u8],
-    log: &[u8],
-    worker: u32,
-    event: u32,
-    n: usize,
-    needed: usize,
-    way: u32,
-)
-    requires { ⌜ n ≤ maxWorkers ⌝ }
-{
-    let mut words = words::fillers();
-    let mut scratch = words;
-    let mut totals = [words::UNTOUCHED; words::TOTALS];
-    let lent = words::part(&mut words, 0, needed, CUT, way);
-    let room = words::part(&mut scratch, 0, super::square(n), SCRATCH, way);
-    let number = if needed == n {
-        planner::lower_cut(log, worker, event, lent, room, &mut totals)
-    } else {
-        planner::plan(log, worker, event, lent, room, &mut totals)
-    };
-    words::print_line(name, call, way, number, &words, 0);
-    words::print_search(name, way, number, &scratch, &totals);
-}
-
-// The cut test on the lower cut.
-pub(crate) fn run_test(name: &[u8], log: &[u8], state: [u32; WORDS], n: usize, way: u32) {
-    let mut cut = state;
-    let mut answers = words::fillers();
-    let lent = words::part(&mut cut, 0, n, CUT, way);
-    let number = planner::cut_test(log, lent, &mut answers);
-    words::print_line(name, b" cut_test", way, number, &answers, 0);
-}
-
-// The test of the covering set with the identifier 1 less than the way.
-pub(crate) fn run_covers(name: &[u8], log: &[u8], way: u32) {
-    let mut answers = words::fillers();
-    let number = planner::covers(log, std::num::wrapping_sub_u32(way, 1), &mut answers);
-    words::print_line(name, b" covers", way, number, &answers, 0);
-}
-
-// One step of worker 0, and in the last way of none.
-pub(crate) fn run_step(name: &[u8], log: &[u8], state: [u32; WORDS], n: usize, way: u32)
-    requires { ⌜ (n ≤ maxWorkers) × (way ≤ 9) ⌝ }
-{
-    words::print(name);
-    words::print_number(b" step way ", way);
-    super::lists::step(log, state, n, way / words::FEW * 4294967295, way);
-    words::print(b"\n");
-}
-
-pub(crate) fn run_steps(name: &[u8], log: &[u8], state: [u32; WORDS], n: usize, way: u32)
-    requires { ⌜ n ≤ maxWorkers ⌝ }
-{
-    let all = 8 * (n + 2);
-    let from = 4 * n;
-    let list = super::lists::list_of(way % 4, n);
-    let mut plan = state;
-    let mut positions = state;
-    let mut answers = words::fillers();
-    let lent = words::part(&mut plan, n, 3 * n, CUT, way);
+// The steps of a list.
+fn run_steps(log: &[u8], given: [u32; SIZE]) -> u32 {
+    let mut read = given;
+    let mut list = given;
+    let mut written = given;
+    let mut answers = given;
+    let words = part(&mut read, numbers::READ, READ_AT);
+    let workers = part(&mut list, numbers::LIST, LIST_AT);
     let number = planner::steps(
         log,
-        lent,
-        words::part(&mut positions, from, n, POSITIONS, way),
-        &list[0..all],
-        words::part(&mut answers, 0, all, ANSWERS, way),
+        words,
+        part(&mut written, numbers::WRITTEN, WRITTEN_AT),
+        workers,
+        part(&mut answers, numbers::ANSWERS, ANSWERS_AT),
     );
-    words::print_line(name, b" steps", way, number, &answers, 0);
-    words::print_line(name, b" positions", way, number, &positions, from);
+    print_changes(b'w', WRITTEN_AT, given, written);
+    print_changes(b'a', ANSWERS_AT, given, answers);
+    number
 }
 
-pub(crate) fn run_restore(name: &[u8], log: &[u8], worker: u32, event: u32, n: usize, way: u32)
-    requires { ⌜ n ≤ maxWorkers ⌝ }
-{
-    let list = super::lists::list_of(way % 4, n);
-    let mut words = words::fillers();
-    let mut scratch = words;
-    let mut positions = words;
-    let mut answers = words;
-    let mut totals = [words::UNTOUCHED; words::TOTALS];
+// Prints what a search leaves. After a success the scratch is free.
+fn print_search(
+    number: u32,
+    given: [u32; SIZE],
+    written: [u32; SIZE],
+    scratch: [u32; SIZE],
+    totals: &[u64; TOTALS],
+) {
+    print_changes(b'w', WRITTEN_AT, given, written);
+    if number != 0 {
+        print_changes(b's', WRITTEN_AT, given, scratch);
+    }
+    text::print_totals(totals);
+}
+
+// The lower cut or the plan.
+fn run_search(log: &[u8], event: u32, given: [u32; SIZE], is_plan: bool, worker: u32) -> u32 {
+    let mut written = given;
+    let mut scratch = given;
+    let mut totals = [UNTOUCHED; TOTALS];
+    let lent = part(&mut written, numbers::WRITTEN, WRITTEN_AT);
+    let room = part(&mut scratch, numbers::SCRATCH, WRITTEN_AT);
+    let number = if is_plan {
+        planner::plan(log, worker, event, lent, room, &mut totals)
+    } else {
+        planner::lower_cut(log, worker, event, lent, room, &mut totals)
+    };
+    print_search(number, given, written, scratch, &totals);
+    number
+}
+
+// The plan, and the steps of a list from its starts.
+fn run_restore(log: &[u8], event: u32, given: [u32; SIZE], worker: u32) -> u32 {
+    let mut list = given;
+    let mut written = given;
+    let mut scratch = given;
+    let mut positions = given;
+    let mut answers = given;
+    let mut totals = [UNTOUCHED; TOTALS];
+    let workers = part(&mut list, numbers::LIST, LIST_AT);
     let number = planner::restore_and_replay(
         log,
         worker,
         event,
-        &list[0..STEP_CALLS],
-        words::part(&mut words, 0, 3 * n, CUT, way),
-        words::part(&mut scratch, 0, super::square(n), SCRATCH, way),
-        words::part(&mut positions, 0, n, POSITIONS, way),
-        words::part(&mut answers, 0, STEP_CALLS * (n + 1), ANSWERS, way),
-        words::part_of_totals(&mut totals, way),
+        workers,
+        part(&mut written, numbers::WRITTEN, WRITTEN_AT),
+        part(&mut scratch, numbers::SCRATCH, WRITTEN_AT),
+        part(&mut positions, numbers::POSITIONS, WRITTEN_AT),
+        part(&mut answers, numbers::ANSWERS, ANSWERS_AT),
+        numbers::part_of_totals(&mut totals, given),
     );
-    words::print_line(name, b" restore", way, number, &words, 0);
-    words::print_line(name, b" positions", way, number, &positions, 0);
-    words::print_line(name, b" replay", way, number, &answers, 0);
-    words::print_search(name, way, number, &scratch, &totals);
+    print_changes(b'p', WRITTEN_AT, given, positions);
+    print_changes(b'a', ANSWERS_AT, given, answers);
+    print_search(number, given, written, scratch, &totals);
+    number
+}
+
+// A call, with its name before what it changes and its result after that; or a new line of this number.
+pub(crate) fn run_entry(
+    name: &[u8],
+    log: &[u8],
+    event: u32,
+    given: [u32; SIZE],
+    call: usize,
+    value: u32,
+) {
+    if call < LINE {
+        text::print_name(call);
+        let number = match call {
+            6 => run_steps(log, given),
+            7 => run_search(log, event, given, false, value),
+            8 => run_search(log, event, given, true, value),
+            9 => run_restore(log, event, given, value),
+            _ => run_one(log, event, given, call, value),
+        };
+        text::print_byte(b' ');
+        text::print_number(b'=', number);
+        return;
+    }
+    text::print_byte(b'\n');
+    io::write_all(libc::STDOUT_FILENO, name);
+    text::print_number(b' ', value);
 }

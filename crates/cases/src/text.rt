@@ -1,0 +1,60 @@
+// What is printed.
+
+use super::numbers::SIZE;
+use libc::STDOUT_FILENO;
+ghost use Prim.Native.Nat.{_<_};
+
+// The totals that there are, one more than a call needs, and what each holds before a call.
+pub const TOTALS: usize = 5;
+
+pub const UNTOUCHED: u64 = 999;
+
+// The names of the calls, in WIDTH bytes each; the number of a call is its place among them.
+const NAMES: [u8; 10 * WIDTH] =
+    *b" log_refusal vector      upper_line  covers      cut_test    step        steps       lower_cut   plan        restore    ";
+
+const WIDTH: usize = 12;
+
+// Prints one byte.
+pub(crate) fn print_byte(byte: u8) {
+    let text = [byte];
+    io::write_all(STDOUT_FILENO, &text);
+}
+
+// Prints the name of a call.
+pub(crate) fn print_name(call: usize)
+    requires { ⌜ call < 10 ⌝ }
+{
+    let from = WIDTH * call;
+    io::write_all(STDOUT_FILENO, &NAMES[from..from + WIDTH]);
+}
+
+// Prints a byte and a number in decimal.
+pub(crate) fn print_number(mark: u8, number: u32) {
+    print_byte(mark);
+    io::print_decimal(STDOUT_FILENO, number as u64);
+}
+
+// Prints each word from place `from` on that is not as it was given, with its number from there.
+pub(crate) fn print_changes(mark: u8, from: usize, given: [u32; SIZE], left: [u32; SIZE]) {
+    let mut k = from;
+    while k < SIZE {
+        let word = left[k];
+        if word != given[k] {
+            print_byte(b' ');
+            print_number(mark, (k - from) as u32);
+            print_number(b':', word);
+        }
+        k += 1;
+    }
+}
+
+// Prints every total.
+pub(crate) fn print_totals(totals: &[u64; TOTALS]) {
+    let mut k: usize = 0;
+    while k < TOTALS {
+        print_byte(b' ');
+        io::print_decimal(STDOUT_FILENO, totals[k]);
+        k += 1;
+    }
+}

@@ -1,0 +1,257 @@
+"""The calls that the program `cases` makes on a case, and how its standard input lists them.
+
+The program has an array of SIZE numbers: how many words are lent of each kind, the words that a call reads, and the words that
+it writes over. Each is FILLER at first. Standard input has for each case the number of its entries and then the entries, each a
+place and a value, in numbers of 4 bytes with the lowest first. An entry puts the value at the place. At a place below ENTRIES it
+is an action besides:
+
+    0 to 9    the call of this number in NAMES, on the numbers as they are. The value is its worker, or the identifier of a
+              covering set
+    10        a new line of the output. The value is its number
+
+The lines of a case:
+
+    no number    the refusal of the log
+    0 to 9       every call, with the words lent in one of the ways below
+    10 to 12     each word of the case in turn changed, by 1, by 65536 and by 4294967295, a sum that wraps: for a word of the
+                 cut the cut test, else a step of the first worker and one of the last
+    13 to 16     the steps of a list, in four patterns, from the planned starts
+    17 + w       three steps of worker w, while every other worker starts at its cut: what these sent before is lost
+
+The ways: in way k, 0 to 4, one word too few is lent of kind k, and just enough of the others. In ways 5 to 7 it is just enough
+of each kind, in way 8 it is 8 more than needed, and in way 9 one too few. A call that only writes words is lent fillers. The
+others are given the words of the case, all from reference.py: its lower cut, its plan, and positions at the planned starts;
+where the case is refused they are fillers.
+"""
+
+import itertools
+import struct
+
+import reference
+
+MAX_WORKERS = reference.MAX_WORKERS
+
+NAMES = ("log_refusal", "vector", "upper_line", "covers", "cut_test", "step", "steps", "lower_cut", "plan", "restore")
+LINE = len(NAMES)
+ENTRIES = LINE + 1
+
+# The places of the counts: the words that a call reads, and those that it writes, which are a line, a cut, a plan, the answer of
+# a test or the positions of a step; scratch; the positions and answers of a list of steps; totals; the list.
+READ, WRITTEN, SCRATCH, POSITIONS, ANSWERS, TOTALS, LIST = range(ENTRIES, ENTRIES + 7)
+
+# The first places of the words.
+READ_AT = LIST + 1
+LIST_AT = READ_AT + 3 * MAX_WORKERS + 8
+WRITTEN_AT = LIST_AT + 8 * (MAX_WORKERS + 2)
+ANSWERS_AT = WRITTEN_AT + MAX_WORKERS + 8
+SIZE = WRITTEN_AT + MAX_WORKERS ** 2 + 8
+
+# What each word to write over holds: a number over every event count.
+FILLER = 900000
+
+# The totals that there are, and the words that a test has for its answer.
+ALL_TOTALS = 5
+FOR_ANSWER = 8
+
+# The kinds of words: of a cut, a line or a plan; scratch; positions; answers; totals. The ways with 8 more than needed, and with
+# one too few of each kind.
+OF_CUT, OF_SCRATCH, OF_POSITIONS, OF_ANSWERS, OF_TOTALS = range(5)
+MORE = 8
+FEW = 9
+WAYS = range(FEW + 1)
+
+# The first lines with changed words, of a list, and of lost starts; the changes.
+CHANGED = FEW + 1
+CHANGES = (1, 65536, 4294967295)
+LISTS = CHANGED + len(CHANGES)
+PATTERNS = range(4)
+LOST = LISTS + len(PATTERNS)
+
+# The numbers of the longest list, and of one that is lent with a plan.
+LONGEST = 8 * (MAX_WORKERS + 2)
+REPLAYED = 32
+
+NO_WORKER = 4294967295
+
+
+def case_of(content):
+    """The log, the worker and the event of a case file."""
+    worker, event = struct.unpack_from("<II", content)
+    return content[8:], worker, event
+
+
+def size(log):
+    """The number of workers; 1 where the log is refused."""
+    return 1 if reference.refusal(log) else reference.read(log).n
+
+
+def lent(needed, kind, way):
+    """How many words of a kind are lent."""
+    return needed - 1 if way in (kind, FEW) else needed + 8 if way == MORE else needed
+
+
+def worker_numbers(pattern, n, count):
+    """A list of worker numbers: 0 to n - 1, n, and the largest number for n + 1."""
+    places = range(count)
+    turns = (
+        [k for k in places],
+        [LONGEST - k for k in places],
+        [k + k // 8 for k in places],
+        [k // 8 for k in places],
+    )[pattern]
+    return [turn % (n + 2) if turn % (n + 2) <= n else NO_WORKER for turn in turns]
+
+
+class Words:
+    """The words of a case."""
+
+    def __init__(self, case, n):
+        number, *_, self.plan = reference.plan_call(*case, [FILLER] * (3 * n), n * n)
+        self.cut = self.plan[0::3] if number else reference.lower_cut_call(*case, [FILLER] * n, n * n)[3]
+        self.positions = self.plan[1::3]
+
+    def with_others_lost(self, w):
+        """The plan with every worker but w starting at its cut."""
+        return [self.plan[k - 1] if k % 3 == 1 and k // 3 != w else word for k, word in enumerate(self.plan)]
+
+
+class Calls:
+    """The entries of a case as they are added, and the labels of those that are actions, for show.py."""
+
+    def __init__(self, content):
+        self.log, self.worker, _ = case = case_of(content)
+        self.n = size(self.log)
+        self.words = Words(case, self.n)
+        self.numbers = [FILLER] * SIZE
+        self.entries = []
+        self.labels = []
+        self.make("log_refusal")
+        for way in WAYS:
+            self.begin(way)
+            self.add_way(way)
+        for line, by in enumerate(CHANGES, CHANGED):
+            self.begin(line)
+            self.add_changes(by)
+        for pattern in PATTERNS:
+            self.begin(LISTS + pattern)
+            self.add_steps(self.words.plan, worker_numbers(pattern, self.n, 8 * (self.n + 2)))
+        for w in range(self.n):
+            self.begin(LOST + w)
+            self.add_steps(self.words.with_others_lost(w), [w] * 3)
+
+    def put(self, place, values):
+        """The entries that change what is at the places from this one on."""
+        for at, value in enumerate(values, place):
+            if self.numbers[at] != value:
+                self.entries.append((at, value))
+                self.numbers[at] = value
+
+    def lend(self, place, needed, kind, way):
+        """Lends words of a kind in a way; their number stands at the place."""
+        self.put(place, [lent(needed, kind, way)])
+
+    def lend_plan(self, way):
+        """Lends the words of a plan to read, and the positions of a step to write."""
+        self.lend(READ, 3 * self.n, OF_CUT, way)
+        self.lend(WRITTEN, self.n, OF_POSITIONS, way)
+
+    def act(self, place, value, label):
+        self.entries.append((place, value))
+        self.labels.append((place, label))
+
+    def make(self, name, value=0, changed=""):
+        self.act(NAMES.index(name), value, changed + name + (" %d" % value if name in ("covers", "step") else ""))
+
+    def begin(self, line):
+        self.act(LINE, line, "")
+
+    def add_way(self, way):
+        self.put(WRITTEN_AT, [FILLER] * self.n)
+        self.add_tests(way)
+        self.add_searches(way)
+        self.add_restore(way)
+        self.put(READ_AT, self.words.plan)
+        self.put(WRITTEN_AT, self.words.positions)
+        self.lend_plan(way)
+        self.make("step", NO_WORKER if way == FEW else 0)
+        self.put_list(way, 8 * (self.n + 2))
+        self.lend(ANSWERS, 8 * (self.n + 2), OF_ANSWERS, way)
+        self.make("steps")
+
+    def add_tests(self, way):
+        self.put(READ_AT, self.words.cut)
+        self.lend(READ, self.n, OF_CUT, way)
+        self.put(WRITTEN, [FOR_ANSWER])
+        self.make("covers", (way - 1) % 2 ** 32)
+        self.make("cut_test")
+
+    def add_searches(self, way):
+        self.lend(WRITTEN, self.n, OF_CUT, way)
+        self.make("vector", self.worker)
+        self.make("upper_line", self.worker)
+        self.lend(SCRATCH, self.n * self.n, OF_SCRATCH, way)
+        self.make("lower_cut", self.worker)
+        self.lend(WRITTEN, 3 * self.n, OF_CUT, way)
+        self.make("plan", self.worker)
+
+    def add_restore(self, way):
+        """The words of the plan and the scratch are lent as before."""
+        self.put_list(way, REPLAYED)
+        self.lend(POSITIONS, self.n, OF_POSITIONS, way)
+        self.lend(ANSWERS, REPLAYED * (self.n + 1), OF_ANSWERS, way)
+        self.lend(TOTALS, 4, OF_TOTALS, way)
+        self.make("restore", self.worker)
+
+    def put_list(self, way, count):
+        self.put(LIST_AT, worker_numbers(way % len(PATTERNS), self.n, count))
+        self.put(LIST, [count])
+
+    def add_changes(self, by):
+        words = self.words
+        self.put(READ_AT, words.cut)
+        self.put(WRITTEN_AT, [FILLER] * self.n)
+        self.lend(READ, self.n, OF_CUT, MORE)
+        self.put(WRITTEN, [FOR_ANSWER])
+        for changed in self.each_changed("cut", READ_AT, words.cut, by):
+            self.make("cut_test", 0, changed)
+        self.put(READ_AT, words.plan)
+        self.put(WRITTEN_AT, words.positions)
+        self.lend_plan(MORE)
+        of_plan = self.each_changed("plan", READ_AT, words.plan, by)
+        of_positions = self.each_changed("position", WRITTEN_AT, words.positions, by)
+        for changed in itertools.chain(of_plan, of_positions):
+            self.make("step", 0, changed)
+            self.make("step", self.n - 1, changed)
+
+    def each_changed(self, what, at, words, by):
+        """Changes each of the words in turn, and gives the label of the calls on it."""
+        for k, word in enumerate(words):
+            self.put(at + k, [(word + by) % 2 ** 32])
+            yield "%s %d, " % (what, k)
+            self.put(at + k, [word])
+
+    def add_steps(self, plan, workers):
+        """Steps from the starts of a plan, each from the positions that the one before left."""
+        self.put(READ_AT, plan)
+        self.lend_plan(MORE)
+        positions = plan[1::3]
+        for worker in workers:
+            self.put(WRITTEN_AT, positions)
+            self.make("step", worker)
+            positions = reference.step_call(self.log, plan, positions, worker)[1]
+
+
+def entries_of(content):
+    """The entries of a case, each a place and a value."""
+    return Calls(content).entries
+
+
+def labelled(content):
+    """The places of the actions of a case, each with its label."""
+    return Calls(content).labels
+
+
+def listed(content):
+    """What standard input has for a case."""
+    entries = entries_of(content)
+    return struct.pack("<I", len(entries)) + b"".join(struct.pack("<II", *entry) for entry in entries)
