@@ -2,9 +2,8 @@
 use mathlib.Core.Path.{_≡_, refl, sym, _∙_}
 use mathlib.Core.Bool.{Bool, true, false, not, cond, _&&_, _||_, false≢true}
 use mathlib.Core.Logic.{⊎-elim}
-use Prim.Native.Nat.{ℕ, _<_, _≤_}
-use native.Mathlib.Omega.{arith}
-use borrow.Author.Tests.{leb-false, eqb-true, eq-eqb, lt-ltb, le-ltb, not-false}
+use Prim.Native.Nat.{ℕ, _<_}
+use borrow.Author.Tests.{leb-false, lt-ltb, le-ltb, not-false}
 use lib.Dec.{eqb, leb, ltb}
 use Rattle.ranges.proofs.Order.{lt-or-le}
 use Rattle.ranges.proofs.Bools.{or-false-left, or-false-right}
@@ -43,24 +42,25 @@ module _ (log : Workers) (w k : ℕ) (e : Event) where
         named = not-false _ (or-false-right (A || B || C || D) E f);
       }
 
-  -- where it passes, what is left of test 7 is that a receive names no event past its peer's last one
-  left-of-7 : Passed → sendFault log e ≡ (isReceive e && ltb (eventCount log (e .peer)) (e .send))
+  -- of a known kind, an event fails the last part of 7 where it names an event and is no receive, or is one and names none, or where a
+  -- receive names an event past its peer's last one
+  send-parts : kindFault e ≡ false → sendFault log e ≡ (not (eqb (names e) (received e)) || (isReceive e && ltb (eventCount log (e .peer)) (e .send)))
   unfolding sendFault kindFault names received
-  left-of-7 p = go (isSend e) refl (isReceive e) refl (eqb (e .send) 0) refl (p .kind) (p .named)
+  send-parts = go (isSend e) refl (isReceive e) refl (eqb (e .send) 0)
     where
-      go : (a : Bool) → isSend e ≡ a → (b : Bool) → isReceive e ≡ b → (c : Bool) → eqb (e .send) 0 ≡ c → not (a || b) ≡ false → eqb (cond c 0 1) (cond b 1 0) ≡ true
-          → cond a (not c) (c || ltb (eventCount log (e .peer)) (e .send)) ≡ (b && ltb (eventCount log (e .peer)) (e .send))
-      go true p true q c r kind named = absurd (false≢true (sym (not-send e q) ∙ p))
-      go true p false q true r kind named = refl
-      go true p false q false r kind named = absurd (false≢true named)
-      go false p true q true r kind named = absurd (false≢true named)
-      go false p true q false r kind named = refl
-      go false p false q c r kind named = absurd (false≢true (sym kind))
+      go : (a : Bool) → isSend e ≡ a → (b : Bool) → isReceive e ≡ b → (c : Bool) → not (a || b) ≡ false
+          → cond a (not c) (c || ltb (eventCount log (e .peer)) (e .send)) ≡ (not (eqb (cond c 0 1) (cond b 1 0)) || (b && ltb (eventCount log (e .peer)) (e .send)))
+      go true p true q c kind = absurd (false≢true (sym (not-send e q) ∙ p))
+      go true p false q true kind = refl
+      go true p false q false kind = refl
+      go false p true q true kind = refl
+      go false p true q false kind = refl
+      go false p false q c kind = absurd (false≢true (sym kind))
 
   -- an event that is no receive and whose own tests pass has no fault
   pub passes : ownFault log w (eventOf log w k .stamp) e ≡ false → isReceive e ≡ false → anyFault log w k e ≡ false
   unfolding anyFault fieldFault sourceFault orderFault
-  passes f other = let p = passed f in rw (p .spare, p .kind, p .peer, p .stamp, left-of-7 p, other)
+  passes f other = let p = passed f in rw (p .spare, p .kind, p .peer, p .stamp, send-parts (p .kind), p .named, other)
 
   -- a receive whose own tests pass has one exactly beside its send
   pub receive-decides : ownFault log w (eventOf log w k .stamp) e ≡ false → isReceive e ≡ true → receiveFault log w e ≡ anyFault log w k e
@@ -68,23 +68,9 @@ module _ (log : Workers) (w k : ℕ) (e : Event) where
   receive-decides f receive =
       let p = passed f in
       ⊎-elim
-      (λ past. rw (p .spare, p .kind, p .peer, p .stamp, left-of-7 p, receive, lt-ltb (eventCount log (e .peer)) (e .send) past, event-past log (e .peer) (e .send) past))
-      (λ within. rw (p .spare, p .kind, p .peer, p .stamp, left-of-7 p, receive, le-ltb (eventCount log (e .peer)) (e .send) within))
+      (λ past. rw (p .spare, p .kind, p .peer, p .stamp, send-parts (p .kind), p .named, receive, lt-ltb (eventCount log (e .peer)) (e .send) past, event-past log (e .peer) (e .send) past))
+      (λ within. rw (p .spare, p .kind, p .peer, p .stamp, send-parts (p .kind), p .named, receive, le-ltb (eventCount log (e .peer)) (e .send) within))
       (lt-or-le (eventCount log (e .peer)) (e .send))
-
-  -- an event that passes 7 names another exactly when it is a receive
-  named-by-7 : kindFault e ≡ false → sendFault log e ≡ false → eqb (names e) (received e) ≡ true
-  unfolding kindFault sendFault names received
-  named-by-7 = go (isSend e) refl (isReceive e) refl (eqb (e .send) 0)
-    where
-      go : (a : Bool) → isSend e ≡ a → (b : Bool) → isReceive e ≡ b → (c : Bool) → not (a || b) ≡ false
-          → cond a (not c) (c || ltb (eventCount log (e .peer)) (e .send)) ≡ false → eqb (cond c 0 1) (cond b 1 0) ≡ true
-      go true p true q c kind send = absurd (false≢true (sym (not-send e q) ∙ p))
-      go true p false q true kind send = refl
-      go true p false q false kind send = absurd (false≢true (sym send))
-      go false p true q true kind send = absurd (false≢true (sym send))
-      go false p true q false kind send = refl
-      go false p false q c kind send = absurd (false≢true (sym kind))
 
   own-passes : anyFault log w k e ≡ false → ownFault log w (eventOf log w k .stamp) e ≡ false
   unfolding anyFault fieldFault ownFault stampFault
@@ -94,10 +80,13 @@ module _ (log : Workers) (w k : ℕ) (e : Event) where
       let C = peerFault log w e in
       let D = sendFault log e in
       let S = leb (e .stamp) (eventOf log w k .stamp) in
+      let N = not (eqb (names e) (received e)) in
       let two = or-false-left (A || B || C || D || S) (sourceFault log w e) (or-false-left (A || B || C || D || S || sourceFault log w e) (orderFault log e) f) in
       let seven = or-false-left (A || B || C || D) S two in
       let front = or-false-left (A || B || C) D seven in
-      rw (front, or-false-right (A || B || C || D) S two, named-by-7 (or-false-right A B (or-false-left (A || B) C front)) (or-false-right (A || B || C) D seven))
+      let parts = send-parts (or-false-right A B (or-false-left (A || B) C front)) in
+      let named = or-false-left N (isReceive e && ltb (eventCount log (e .peer)) (e .send)) (sym parts ∙ or-false-right (A || B || C) D seven) in
+      rw (front, or-false-right (A || B || C || D) S two, named)
 
   -- a fault of its own is one of these
   pub own-decides : ownFault log w (eventOf log w k .stamp) e ≡ true → anyFault log w k e ≡ true

@@ -8,7 +8,7 @@ use Rattle.ranges.proofs.Any.{any-found}
 use Rattle.log.specs.declared.Event.{Event}
 use Rattle.log.specs.Layout.{workersOf}
 use Rattle.log.specs.Model.{eventOf}
-use Rattle.log.proofs.Read.{next-within, next-event, count-field}
+use Rattle.log.proofs.Read.{next-within, next-event}
 use Rattle.accept.specs.Records.{eventFault, recordFault}
 use Rattle.accept.specs.Inner.Message.{ownFault}
 use Rattle.accept.specs.Inner.Blocks.{blockSize, Lists}
