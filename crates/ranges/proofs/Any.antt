@@ -1,7 +1,7 @@
 -- Laws of `anyBelow`, and what a loop that looks for a number with p keeps.
 -- Assumes nothing.
 use mathlib.Core.Path.{_≡_, refl, _∙_, sym, ap}
-use mathlib.Core.Bool.{Bool, true, false, false≢true}
+use mathlib.Core.Bool.{Bool, true, false, _||_, false≢true}
 use mathlib.Core.Logic.{⊎-elim}
 use Prim.Native.Nat.{ℕ, zero, suc, _+_, _<_, _≤_}
 use native.Mathlib.Nat.{not-suc-le-zero, eq-or-lt-of-le, le-of-suc-le-suc}
@@ -18,6 +18,10 @@ module _ (p : ℕ → Bool) where
   pub any-more : (n : ℕ) → anyBelow p n ≡ false → p n ≡ false → anyBelow p (n + 1) ≡ false
   unfolding anyBelow
   any-more n before here = rw (add-one, before) here
+
+  pub any-next : (n : ℕ) → anyBelow p (n + 1) ≡ (anyBelow p n || p n)
+  unfolding anyBelow
+  any-next n = rw add-one
 
   -- none below n: not this one
   pub any-each : (n : ℕ) → anyBelow p n ≡ false → (k : ℕ) → k < n → p k ≡ false

@@ -3,6 +3,7 @@ pub mod Bools
 pub mod First
 pub mod Max
 pub mod Order
+pub mod Powers
 pub mod Store
 pub mod Sum
 pub mod Sweep
