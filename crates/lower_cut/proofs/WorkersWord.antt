@@ -4,12 +4,13 @@ use mathlib.Core.Logic.{⊎-elim}
 use mathlib.Core.Bool.{Bool, true, false, cond}
 use mathlib.Core.List.{List}
 use Prim.Native.Nat.{ℕ, zero, suc, _+_, _-_, _*_, _/_, _%_, _^_, _<_, _≤_}
-use native.Mathlib.Nat.{not-suc-le-zero, eq-or-lt-of-le, le-of-suc-le-suc, add-zero, add-comm, one-mul, mod-eq-of-lt, pow-suc, mul-assoc, add-mul-div-right, add-mul-mod-self-right}
+use native.Mathlib.Nat.{not-suc-le-zero, eq-or-lt-of-le, le-of-suc-le-suc, add-zero, add-comm, one-mul, mod-eq-of-lt, pow-suc, add-mul-div-right, add-mul-mod-self-right}
 use native.Mathlib.Omega.{arith}
 use lib.Bits.{bitOr, or-shifted-r, or-zero-r}
 use lib.Dec.{ltb}
-use lib.Pow.{pow-pos, pow-add, high}
+use lib.Pow.{pow-pos, high}
 use Rattle.ranges.specs.Fold.{sumBelow}
+use Rattle.ranges.proofs.Powers.{power-split}
 use Rattle.ranges.proofs.Sum.{sum-none, sum-more}
 use Rattle.lent.specs.Lent.{at}
 use Rattle.lower_cut.specs.Workers.{bitOf, workersWord}
@@ -17,10 +18,6 @@ use Rattle.lower_cut.specs.Workers.{bitOf, workersWord}
 -- a bit put above a number below 2 ^ n is its bit n, ..
 bit-top : (a b n : ℕ) → a < 2 ^ n → b < 2 → (a + b * 2 ^ n) / 2 ^ n % 2 ≡ b
 bit-top a b n h l = rw (add-comm a (b * 2 ^ n), high b n h) (mod-eq-of-lt l)
-
--- a bit above bit w is an even multiple of 2 ^ w
-power-split : (b m w : ℕ) → b * 2 ^ (suc m + w) ≡ (b * 2 ^ m * 2) * 2 ^ w
-power-split b m w = rw (pow-add 2 (suc m) w, pow-suc 2 m) (simp mul-assoc)
 
 -- .. and leaves the bits below n
 bit-below : (a b n w : ℕ) → w < n → (a + b * 2 ^ n) / 2 ^ w % 2 ≡ a / 2 ^ w % 2
