@@ -1,4 +1,5 @@
 pub mod Limits
+pub mod Forms
 pub mod Model
 pub mod Layout
 pub mod Header

@@ -3,10 +3,14 @@
 ghost use mathlib.Core.Path.{_≡_};
 ghost use Prim.Native.Nat.{_+_, _*_, _<_, _≤_};
 ghost use lib.ListN.{length};
+ghost use Rattle.log.specs.Forms.{receivesOnce};
 ghost use Rattle.log.specs.Limits.{maxWorkers, maxEvents, maxCheckpoints, maxRole};
 ghost use Rattle.log.specs.Model.{noEvent, workerCount, eventCount, eventOf, checkpointCount, checkpointOf, roleOf, isSend, isUnlogged, isReceive, received, column, unloggedSend};
 ghost use Rattle.log.specs.Layout.{formField, sizeField, lengthField, headerOf, field, entryOrZero, section, eventStart, eventRecord, checkpointRecord, workersOf};
 ghost use Rattle.log.specs.Header.{limitFault, outside, sectionFault, entryFault, someEntry, entriesRefusal, layoutRefusal};
+
+// The form of a log in which a send is received at most once.
+const SECOND_FORM: u32 = 2;
 
 // The limits of a log.
 const MIN_LENGTH: usize = 8;
@@ -272,6 +276,14 @@ fn checkpoint_in(log: &[u8], start: usize, count: usize, k: usize) -> Checkpoint
     ensures answer { λ r. ⌜ r ≡ checkpointRecord (section (now (log .entry)) start (8 * count)) k ⌝ }
 {
     checkpoint_record(section_part(log, start, count, CHECKPOINT_SIZE), k)
+}
+
+// Whether the log is of the form in which a send is received at most once.
+pub fn receives_once(log: &[u8]) -> bool
+    requires { ⌜ layoutRefusal (now log) ≡ 0 ⌝ }
+    ensures answer { λ r. ⌜ r ≡ receivesOnce (formField (now (log .entry))) ⌝ }
+{
+    form_field(log) == SECOND_FORM
 }
 
 // The number of workers.

@@ -1,0 +1,12 @@
+-- `log::receives_once` meets its contract. Assumes nothing.
+use Rattle.log.specs.Forms.{receivesOnce}
+use Rattle.log.proofs.Readable.{readable}
+use Rattle.log.proofs.receives_once.Statement.{statement}
+use Rattle.log.proofs.receives_once.Tie as tie
+
+returns : tie.Need-returns
+unfolding receivesOnce
+returns c = rw (c .form-field .ensures)
+
+pub receives-once-spec : {M : Type 1} → statement M
+receives-once-spec = tie.close (tie.spec (λ c κs. readable _ (c .before .pre) .long) returns)

@@ -1,0 +1,19 @@
+-- The forms of a log: document 01, "Bytes 0-1: form, 1", and document 02, Note 1, "Form 2 has the layout of form 1".
+-- Assumes nothing.
+use mathlib.Core.Bool.{Bool, _||_}
+use Prim.Native.Nat.{ℕ}
+use lib.Dec.{eqb}
+
+abbrev pub firstForm : ℕ
+firstForm = 1
+
+abbrev pub secondForm : ℕ
+secondForm = 2
+
+-- the forms that there are
+unfoldable pub isForm : ℕ → Bool
+isForm form = eqb form firstForm || eqb form secondForm
+
+-- "Form 2 .. a send is received at most once. Form 1 still permits repeats"
+unfoldable pub receivesOnce : ℕ → Bool
+receivesOnce form = eqb form secondForm

@@ -1,0 +1,4 @@
+pub mod Again
+pub mod Bits
+pub mod Places
+pub mod Marks
