@@ -21,7 +21,8 @@ use Rattle.log.proofs.Readable.{readable}
 use Rattle.log.proofs.Read.{size-read, count-field, checkpoints-field, role-field, worker-within, worker-within′, event-none, event-past, checkpoint-initial, checkpoint-past}
 use Rattle.accept.specs.Records.{kindFault, peerFault, sendFault, fieldFault, stampFault, sendOf, sourceFault, orderFault, eventFault}
 use Rattle.accept.specs.Records.{checkpointFault, recordFault, recordCount, workerFault, someRecord}
-use Rattle.accept.specs.Refusal.{eventsRefusal, contentRefusal, logRefusal}
+use Rattle.repeats.specs.Repeats.{repeatFault}
+use Rattle.accept.specs.Refusal.{eventsRefusal, recordsRefusal, contentRefusal, logRefusal}
 use Rattle.accept.specs.WellFormed.{Sent, WellFormed}
 
 -- ---- an event that is no `noEvent` is an event of a worker
@@ -40,19 +41,13 @@ not-send e r = go (eqb (e .kind) 2) refl (eqb (e .kind) 3) refl r
     go false p true q r = rw (eqb-true (e .kind) 3 q)
     go false p false q r = absurd (false≢true r)
 
-module _ (s : List ℕ) (accepted : logRefusal s ≡ 0) where
-  both : (layoutRefusal s ≡ 0) × (contentRefusal (logOf s) ≡ 0)
-  unfolding logRefusal
-  both = or-else-zero (layoutRefusal s) (contentRefusal (logOf s)) accepted
-
-  pub accepted-layout : layoutRefusal s ≡ 0
-  accepted-layout = both .0
-
+-- a log whose layout and whose records pass their tests
+module _ (s : List ℕ) (layout : layoutRefusal s ≡ 0) (records : recordsRefusal (workersOf s) ≡ 0) where
   tests : (someRecord 7 (workersOf s) ≡ false) × (someRecord 8 (workersOf s) ≡ false) × (someRecord 9 (workersOf s) ≡ false)
       × (someRecord 10 (workersOf s) ≡ false) × (someRecord 11 (workersOf s) ≡ false)
-  unfolding contentRefusal eventsRefusal
+  unfolding recordsRefusal eventsRefusal
   tests =
-      let parts = or-else-zero (eventsRefusal (workersOf s)) (cond (someRecord 11 (workersOf s)) 11 0) (both .1) in
+      let parts = or-else-zero (eventsRefusal (workersOf s)) (cond (someRecord 11 (workersOf s)) 11 0) records in
       let seven = peel (someRecord 7 (workersOf s)) 6 _ (parts .0) in
       let eight = peel (someRecord 8 (workersOf s)) 7 _ (seven .1) in
       let nine = peel (someRecord 9 (workersOf s)) 8 _ (eight .1) in
@@ -164,14 +159,14 @@ module _ (s : List ℕ) (accepted : logRefusal s ≡ 0) where
   index-within w (suc k) =
       ⊎-elim (λ l. rw add-one at (checkpoint-order w k l .0)) (λ l. rw (checkpoint-past (workersOf s) w (suc k) (omega arith)) (omega arith)) (lt-or-le k (checkpointCount (workersOf s) w))
 
-  pub well-formed : WellFormed (workersOf s)
-  well-formed =
+  pub formed : WellFormed (workersOf s)
+  formed =
       record {
-        some = rw (size-read s) (readable s accepted-layout .some);
-        few = rw (size-read s) (readable s accepted-layout .few);
-        events = λ w. count-field s accepted-layout w .1;
-        recorded = λ w. checkpoints-field s accepted-layout w .1;
-        roles = λ w. role-field s accepted-layout w .1;
+        some = rw (size-read s) (readable s layout .some);
+        few = rw (size-read s) (readable s layout .few);
+        events = λ w. count-field s layout w .1;
+        recorded = λ w. checkpoints-field s layout w .1;
+        roles = λ w. role-field s layout w .1;
         kinds = kinds;
         peers = peers;
         nameless = nameless;
@@ -197,3 +192,22 @@ module _ (s : List ℕ) (accepted : logRefusal s ≡ 0) where
       sent : (w x : ℕ) → isReceive (eventOf (workersOf s) w x) ≡ true → Sent (workersOf s) w (eventOf (workersOf s) w x)
       sent w zero r = let no = receive-within (workersOf s) w 0 r in let no′ : ⊥ = omega arith in absurd no′
       sent w (suc k) r = rw add-one at (sent-by w k (receive-within (workersOf s) w (suc k) r .1) (rw add-one r))
+
+-- an accepted one: its form permits its receives too
+module _ (s : List ℕ) (accepted : logRefusal s ≡ 0) where
+  both : (layoutRefusal s ≡ 0) × (contentRefusal (logOf s) ≡ 0)
+  unfolding logRefusal
+  both = or-else-zero (layoutRefusal s) (contentRefusal (logOf s)) accepted
+
+  pub accepted-layout : layoutRefusal s ≡ 0
+  accepted-layout = both .0
+
+  passes : (recordsRefusal (workersOf s) ≡ 0) × (_≡_ {A = ℕ} (cond (repeatFault (logOf s)) 24 0) 0)
+  unfolding contentRefusal
+  passes = or-else-zero (recordsRefusal (workersOf s)) (cond (repeatFault (logOf s)) 24 0) (both .1)
+
+  pub well-formed : WellFormed (workersOf s)
+  well-formed = formed s accepted-layout (passes .0)
+
+  pub accepted-once : repeatFault (logOf s) ≡ false
+  accepted-once = peel (repeatFault (logOf s)) 23 0 (passes .1) .0

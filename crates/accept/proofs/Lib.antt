@@ -6,3 +6,5 @@ pub mod Message
 pub mod Quick
 pub mod Stamps
 pub mod Tube
+pub mod Messages
+pub mod Once

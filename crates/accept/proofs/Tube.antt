@@ -5,11 +5,13 @@ use Rattle.ranges.specs.Fold.{anyBelow, tabulate}
 use Rattle.bytes_le.specs.Little.{le}
 use Rattle.log.specs.Model.{Log, workerCount, worker, eventCount, eventOf, checkpointCount, checkpointOf, isSend, isUnlogged, isLogged, isReceive}
 use Rattle.log.specs.Layout.{field, section, eventSection, checkpointSection, eventRecord, checkpointRecord, workerOf, workersOf, logOf}
+use Rattle.log.specs.Forms.{isForm, receivesOnce}
 use Rattle.log.specs.Header.{lengthFault, formFault, sizeFault, headerFault, limitFault, outside, sectionFault, entryFault, someEntry, entriesRefusal, layoutRefusal}
 use Rattle.accept.specs.Records.{kindFault, peerFault, sendFault, fieldFault, stampFault, sendOf, sourceFault, orderFault, anyFault, eventFault}
 use Rattle.accept.specs.Records.{checkpointFault, recordFault, recordCount, workerFault, someRecord}
 use Rattle.lent.specs.Lent.{orElse}
-use Rattle.accept.specs.Refusal.{eventsRefusal, contentRefusal, logRefusal}
+use Rattle.repeats.specs.Repeats.{repeatFault}
+use Rattle.accept.specs.Refusal.{eventsRefusal, recordsRefusal, contentRefusal, logRefusal}
 use Rattle.accept.specs.Tube.{tube, tubeLog}
 
 pub tube-model : logOf tube ≡ tubeLog
@@ -23,5 +25,5 @@ pub tube-accepted : logRefusal tube ≡ 0
 unfolding anyBelow le tabulate workerCount worker eventCount eventOf checkpointCount checkpointOf isSend isUnlogged isLogged isReceive field section
     eventSection checkpointSection eventRecord checkpointRecord workerOf workersOf lengthFault formFault sizeFault headerFault limitFault outside
     sectionFault entryFault someEntry entriesRefusal layoutRefusal kindFault peerFault sendFault fieldFault stampFault sendOf sourceFault orderFault
-    anyFault eventFault checkpointFault recordFault recordCount workerFault someRecord eventsRefusal contentRefusal orElse logRefusal
+    anyFault eventFault checkpointFault recordFault recordCount workerFault someRecord eventsRefusal recordsRefusal repeatFault contentRefusal orElse logRefusal isForm receivesOnce
 tube-accepted = refl

@@ -7,6 +7,7 @@ use Rattle.lent.specs.Lent.{orElse}
 use Rattle.log.specs.Header.{layoutRefusal}
 use Rattle.log.specs.Layout.{workersOf, logOf}
 use Rattle.log.specs.Model.{Log, Workers}
+use Rattle.repeats.specs.Repeats.{repeatFault}
 use Rattle.accept.specs.Records.{someRecord}
 
 -- 7 to 10
@@ -14,10 +15,14 @@ unfoldable pub eventsRefusal : Workers → ℕ
 eventsRefusal log = cond (someRecord 7 log) 7 (cond (someRecord 8 log) 8 (cond (someRecord 9 log) 9 (cond (someRecord 10 log) 10 0)))
 
 -- 7 to 11: 0 where each record is as it should be
-unfoldable pub contentRefusal : Log → ℕ
-contentRefusal log = orElse (eventsRefusal (log .workers)) (cond (someRecord 11 (log .workers)) 11 0)
+unfoldable pub recordsRefusal : Workers → ℕ
+recordsRefusal log = orElse (eventsRefusal log) (cond (someRecord 11 log) 11 0)
 
--- 1 to 11, and 0 where the log is accepted: the layout of the bytes, then the content of the log
+-- 7 to 11, then 24: "it is tested after 11"
+unfoldable pub contentRefusal : Log → ℕ
+contentRefusal log = orElse (recordsRefusal (log .workers)) (cond (repeatFault log) 24 0)
+
+-- 1 to 11 and 24, and 0 where the log is accepted: the layout of the bytes, then the content of the log
 unfoldable pub logRefusal : List ℕ → ℕ
 logRefusal s = orElse (layoutRefusal s) (contentRefusal (logOf s))
 

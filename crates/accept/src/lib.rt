@@ -1,4 +1,4 @@
-// Every log is accepted, or refused by the smallest number of 1 to 11 that applies.
+// Every log is accepted, or refused by the first number of 1 to 11 and 24 that applies.
 
 use log::Checkpoint;
 use log::Event;
@@ -9,14 +9,14 @@ ghost use lib.ListN.{length};
 ghost use Rattle.ranges.specs.Fold.{anyBelow, maxBelow};
 ghost use Rattle.lent.specs.Lent.{at};
 ghost use Rattle.log.specs.Header.{layoutRefusal};
-ghost use Rattle.log.specs.Limits.{maxWorkers, maxEvents};
+ghost use Rattle.log.specs.Limits.{maxEvents};
 ghost use Rattle.log.specs.Model.{workerCount, eventCount, eventOf, isReceive};
 ghost use Rattle.log.specs.Layout.{workersOf, logOf};
 ghost use Rattle.accept.specs.Records.{kindFault, peerFault, sendFault, fieldFault, stampFault, sendOf, sourceFault, orderFault};
 ghost use Rattle.accept.specs.Records.{eventFault, checkpointFault, recordFault, recordCount, workerFault, someRecord};
 ghost use Rattle.accept.specs.Inner.Message.{names, ownFault, receiveFault};
 ghost use Rattle.accept.specs.Inner.Blocks.{blockSize, faultWithin, someWithin, listedFault, IsReceived, Lists};
-ghost use Rattle.accept.specs.Refusal.{eventsRefusal, contentRefusal, logRefusal};
+ghost use Rattle.accept.specs.Refusal.{eventsRefusal, recordsRefusal, contentRefusal, logRefusal};
 
 // Whether the kind is none of 1, 2 and 3.
 fn kind_fault(e: Event) -> bool
@@ -412,9 +412,9 @@ fn events_refusal(log: &[u8]) -> u32
 }
 
 // Tests 7 to 11: the number of the first that fails, or 0.
-fn content_refusal(log: &[u8]) -> u32
+fn records_refusal(log: &[u8]) -> u32
     requires { ⌜ layoutRefusal (now log) ≡ 0 ⌝ }
-    ensures answer { λ r. ⌜ r ≡ contentRefusal (logOf (now (log .entry))) ⌝ }
+    ensures answer { λ r. ⌜ r ≡ recordsRefusal (workersOf (now (log .entry))) ⌝ }
 {
     let refusal = events_refusal(log);
     if refusal != 0 {
@@ -422,6 +422,21 @@ fn content_refusal(log: &[u8]) -> u32
     }
     if some_record(log, 11) {
         return 11;
+    }
+    0
+}
+
+// Tests 7 to 11 and 24: the number of the first that fails, or 0.
+fn content_refusal(log: &[u8]) -> u32
+    requires { ⌜ layoutRefusal (now log) ≡ 0 ⌝ }
+    ensures answer { λ r. ⌜ r ≡ contentRefusal (logOf (now (log .entry))) ⌝ }
+{
+    let refusal = records_refusal(log);
+    if refusal != 0 {
+        return refusal;
+    }
+    if repeats::repeat_fault(log) {
+        return 24;
     }
     0
 }

@@ -6,6 +6,7 @@ use Prim.Native.Nat.{ℕ, _+_, _*_}
 use lib.Dec.{eqb, ltb}
 use lib.ListN.{length}
 use Rattle.ranges.specs.Fold.{anyBelow}
+use Rattle.log.specs.Forms.{isForm}
 use Rattle.log.specs.Limits.{minLength, maxLength, maxWorkers, maxEvents, maxCheckpoints, maxRole}
 use Rattle.log.specs.Layout.{formField, sizeField, lengthField, headerOf, field, eventSize, checkpointSize}
 use Rattle.log.specs.Layout.{eventCountField, eventOffsetField, checkpointCountField, checkpointOffsetField, roleField}
@@ -14,9 +15,9 @@ use Rattle.log.specs.Layout.{eventCountField, eventOffsetField, checkpoi
 unfoldable pub lengthFault : List ℕ → Bool
 lengthFault s = ltb (length s) minLength || ltb maxLength (length s)
 
--- 2: "form not 1"
+-- 2: "a form that is neither"
 unfoldable pub formFault : List ℕ → Bool
-formFault s = not (eqb (formField s) 1)
+formFault s = not (isForm (formField s))
 
 -- 3: "n outside 1..64"
 unfoldable pub sizeFault : List ℕ → Bool

@@ -7,9 +7,11 @@ ghost use Rattle.log.specs.Forms.{receivesOnce};
 ghost use Rattle.log.specs.Limits.{maxWorkers, maxEvents, maxCheckpoints, maxRole};
 ghost use Rattle.log.specs.Model.{noEvent, workerCount, eventCount, eventOf, checkpointCount, checkpointOf, roleOf, isSend, isUnlogged, isReceive, received, column, unloggedSend};
 ghost use Rattle.log.specs.Layout.{formField, sizeField, lengthField, headerOf, field, entryOrZero, section, eventStart, eventRecord, checkpointRecord, workersOf};
-ghost use Rattle.log.specs.Header.{limitFault, outside, sectionFault, entryFault, someEntry, entriesRefusal, layoutRefusal};
+ghost use Rattle.log.specs.Header.{formFault, limitFault, outside, sectionFault, entryFault, someEntry, entriesRefusal, layoutRefusal};
 
-// The form of a log in which a send is received at most once.
+// The forms of a log. In the second one a send is received at most once.
+const FIRST_FORM: u32 = 1;
+
 const SECOND_FORM: u32 = 2;
 
 // The limits of a log.
@@ -171,6 +173,18 @@ fn entries_refusal(log: &[u8]) -> u32
     0
 }
 
+// Test 2: whether the form is neither of the two.
+fn form_fault(log: &[u8]) -> bool
+    requires { ⌜ 8 ≤ length (now log) ⌝ }
+    ensures answer { λ r. ⌜ r ≡ formFault (now (log .entry)) ⌝ }
+{
+    let form = form_field(log);
+    if form == FIRST_FORM {
+        return false;
+    }
+    form != SECOND_FORM
+}
+
 // Tests 1 to 6: the number of the first that fails, or 0.
 pub fn layout_refusal(log: &[u8]) -> u32
     ensures answer { λ r. ⌜ r ≡ layoutRefusal (now (log .entry)) ⌝ }
@@ -181,7 +195,7 @@ pub fn layout_refusal(log: &[u8]) -> u32
     if MAX_LENGTH < log.len() {
         return 1;
     }
-    if form_field(log) != 1 {
+    if form_fault(log) {
         return 2;
     }
     let n = size_field(log);

@@ -1,5 +1,5 @@
 -- `log::layout_refusal` meets its contract. Assumes nothing.
-use mathlib.Core.Path.{_≡_}
+use mathlib.Core.Path.{_≡_, sym, _∙_}
 use mathlib.Core.Bool.{false}
 use borrow.Author.Tests.{lt-ltb, le-ltb, eq-eqb, ne-eqb}
 use Rattle.log.specs.Header.{layoutRefusal, lengthFault, formFault, sizeFault, headerFault}
@@ -19,16 +19,12 @@ length-ok : (c : tie.Else2) → lengthFault (c .before .before .before .args .lo
 unfolding lengthFault
 length-ok c = rw (le-ltb _ _ (c .before .if1 .left), le-ltb _ _ (c .if2 .left))
 
-form-field-requires : tie.Need-form-field-requires
-form-field-requires c κs = search needs
-
 returns-3 : tie.Need-returns-3
-unfolding layoutRefusal formFault
-returns-3 c = rw (length-ok (c .before .before), ← c .before .form-field .ensures, ne-eqb _ _ (c .if3 .taken))
+unfolding layoutRefusal
+returns-3 c = rw (length-ok (c .before .before), ← c .before .form-fault .ensures, c .if3 .taken)
 
 form-ok : (c : tie.Else3) → formFault (c .before .before .before .before .before .args .log .now) ≡ false
-unfolding formFault
-form-ok c = rw (← c .before .form-field .ensures, eq-eqb _ _ (c .if3 .left))
+form-ok c = sym (c .before .form-fault .ensures) ∙ c .if3 .left
 
 size-field-requires : tie.Need-size-field-requires
 size-field-requires c κs = search needs
@@ -84,4 +80,4 @@ returns-8 c =
 
 pub layout-refusal-spec : {M : Type 1} → statement M
 layout-refusal-spec =
-    tie.close (tie.spec returns returns-2 form-field-requires returns-3 size-field-requires returns-4 (λ c. search needs) returns-5 length-field-requires (λ c. search needs) returns-6 header-of-requires returns-7 (λ c κs. search needs) returns-8)
+    tie.close (tie.spec returns returns-2 (λ c κs. search needs) returns-3 size-field-requires returns-4 (λ c. search needs) returns-5 length-field-requires (λ c. search needs) returns-6 header-of-requires returns-7 (λ c κs. search needs) returns-8)
