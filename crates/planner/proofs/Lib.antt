@@ -2,3 +2,4 @@ pub mod TubeTable
 pub mod Answered
 pub mod StepWords
 pub mod Restored
+pub mod SameAnswers

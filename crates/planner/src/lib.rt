@@ -8,8 +8,10 @@ ghost use mathlib.Core.List.{[], _∷_};
 ghost use Prim.Native.Nat.{_+_, _*_, _≤_};
 ghost use lib.ListN.{length, take};
 ghost use Rattle.lent.specs.Lent.{orElse, wordsRefusal, unlessRefused, KeptIfRefused};
-ghost use Rattle.log.specs.Layout.{workersOf};
+ghost use Rattle.log.specs.Forms.{secondForm};
+ghost use Rattle.log.specs.Layout.{formField, workersOf};
 ghost use Rattle.log.specs.Model.{workerCount};
+ghost use Rattle.repeats.specs.Repeats.{ReceivedOnce, ReceivedTwice};
 ghost use Rattle.accept.specs.Refusal.{logRefusal, given};
 ghost use Rattle.causality.specs.Cut.{vector, isConsistent};
 ghost use Rattle.lower_cut.specs.Figure2.{lowerCut};
@@ -27,6 +29,8 @@ ghost use Rattle.planner.specs.Calls.{wordOf, plannedWords, plannedRun, 
 #[no_mangle]
 pub extern "C" fn log_refusal(log: &[u8]) -> u32
     ensures answer { λ r. ⌜ r ≡ logRefusal (now (log .entry)) ⌝ }
+    ensures once { λ r. ⌜ (r ≡ 0 → formField (now (log .entry)) ≡ secondForm → ReceivedOnce (workersOf (now (log .entry)))) ⌝ }
+    ensures twice { λ r. ⌜ (r ≡ 24 → (formField (now (log .entry)) ≡ secondForm) × ReceivedTwice (workersOf (now (log .entry)))) ⌝ }
 {
     accept::accept(log)
 }

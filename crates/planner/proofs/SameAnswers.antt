@@ -1,0 +1,14 @@
+-- Two accepted logs with equal workers get the same answers from every call. Assumes nothing.
+use mathlib.Core.Path.{_≡_, ap}
+use mathlib.Core.List.{List}
+use Prim.Native.Nat.{ℕ}
+use Rattle.log.specs.Layout.{workersOf}
+use Rattle.accept.specs.Refusal.{given, logRefusal}
+use Rattle.planner.specs.Answers.{answersTo, SameAnswers}
+
+-- all that a call is given of them is equal
+given-same : (s t : List ℕ) → logRefusal s ≡ 0 → logRefusal t ≡ 0 → workersOf s ≡ workersOf t → given s ≡ given t
+given-same s t accepted accepted′ same = rw (accepted, accepted′, same)
+
+pub same-answers : (s t : List ℕ) → SameAnswers s t
+same-answers s t accepted accepted′ same = ap answersTo (given-same s t accepted accepted′ same)
