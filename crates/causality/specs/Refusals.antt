@@ -28,20 +28,20 @@ overCount log words w = ltb (eventCount log w) (at words w)
 unfoldable pub cutRefusal : Workers → List ℕ → ℕ
 cutRefusal log words = cond (anyBelow (overCount log words) (workerCount log)) 16 0
 
--- 1 to 13, of a call for an event
+-- the log's, then 12 and 13: of a call for an event
 unfoldable pub breakpointRefusal : Given → ℕ → ℕ → ℕ
 breakpointRefusal log w e = orElse (log .refusal) (orElse (workerRefusal (log .workers) w) (eventRefusal (log .workers) w e))
 
--- 1 to 14, of a call that writes `each` words for each worker into those lent; `others` is 14 where something else lent is too short
+-- these, then 14: of a call that writes `each` words for each worker into those lent; `others` is 14 where something else lent is too short
 unfoldable pub lineRefusal : Given → ℕ → ℕ → ℕ → ℕ → ℕ → ℕ
 lineRefusal log w e each lent others =
     orElse (breakpointRefusal log w e) (orElse (wordsRefusal lent (each * workerCount (log .workers))) others)
 
--- 1 to 15, of one that is lent scratch too: the lower cut and the plan
+-- these, then 15: of one that is lent scratch too: the lower cut and the plan
 unfoldable pub searchRefusal : Given → ℕ → ℕ → ℕ → ℕ → ℕ → ℕ → ℕ
 searchRefusal log w e each lent others scratch = orElse (lineRefusal log w e each lent others) (scratchRefusal (log .workers) scratch)
 
--- 1 to 11, 14 and 16, of the cut test
+-- the log's, then 14 and 16: of the cut test
 unfoldable pub testRefusal : Given → List ℕ → ℕ → ℕ → ℕ
 testRefusal log words lent others =
     orElse (log .refusal) (orElse (orElse (wordsRefusal lent (workerCount (log .workers))) others) (cutRefusal (log .workers) words))

@@ -128,7 +128,7 @@ fn some_over_count(log: &[u8], words: &[u32]) -> bool
     false
 }
 
-// Refusals 1 to 11, 14 and 16 of the cut test.
+// The log's refusals, then 14 and 16, of the cut test.
 fn test_refusal(log: &[u8], words: &[u32], others: u32) -> u32
     ensures answer { λ r. ⌜ r ≡ testRefusal (given (now (log .entry))) (now (words .entry)) (length (now (words .entry))) others ⌝ }
 {

@@ -43,7 +43,7 @@ fn scratch_refusal(log: &[u8], lent: usize) -> u32
     0
 }
 
-// Refusals 1 to 13 of a call for an event.
+// The log's refusals, then 12 and 13, of a call for an event.
 pub fn breakpoint_refusal(log: &[u8], worker: u32, event: u32) -> u32
     ensures answer { λ r. ⌜ r ≡ breakpointRefusal (given (now (log .entry))) worker event ⌝ }
 {
@@ -57,7 +57,7 @@ pub fn breakpoint_refusal(log: &[u8], worker: u32, event: u32) -> u32
     )
 }
 
-// Refusals 1 to 14 of a call that writes `each` words for each worker into `words` lent ones; `others` is the refusal of what else is lent.
+// These, then 14, of a call that writes `each` words for each worker into `words` lent ones; `others` is the refusal of what else is lent.
 pub fn line_refusal(
     log: &[u8],
     worker: u32,
@@ -76,7 +76,7 @@ pub fn line_refusal(
     lent::or_else(lent::words_refusal(words, needed), others)
 }
 
-// Refusals 1 to 15 of such a call that is lent scratch too.
+// These, then 15, of such a call that is lent scratch too.
 pub fn search_refusal(
     log: &[u8],
     worker: u32,

@@ -28,12 +28,12 @@ stateRefusal log words positions others =
     (orElse (wordsRefusal (length words) (3 * workerCount log)) (orElse (wordsRefusal (length positions) (workerCount log)) others))
     (orderRefusal log words positions)
 
--- a step: 1 to 11, 12, 14 and 16
+-- a step: the log's, then 12, 14 and 16
 unfoldable pub stepRefusal : Given → List ℕ → List ℕ → ℕ → ℕ
 stepRefusal log words positions w =
     orElse (log .refusal) (orElse (workerRefusal (log .workers) w) (stateRefusal (log .workers) words positions 0))
 
--- a list of steps, which tests the log and the words once: 1 to 11, 14 and 16. A worker number that is none of the log's is answered by 12.
+-- a list of steps, which tests the log and the words once: the log's, then 14 and 16. A worker number that is none of the log's is answered by 12.
 unfoldable pub stepsRefusal : Given → List ℕ → List ℕ → ℕ → ℕ
 stepsRefusal log words positions others = orElse (log .refusal) (stateRefusal (log .workers) words positions others)
 

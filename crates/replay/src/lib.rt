@@ -66,7 +66,7 @@ fn state_refusal(log: &[u8], words: &[u32], positions: &[u32], others: u32) -> u
     0
 }
 
-// Refusals 1 to 16 of a step.
+// The log's refusals, then 12, 14 and 16, of a step.
 fn step_refusal(log: &[u8], words: &[u32], positions: &[u32], worker: u32) -> u32
     ensures answer { λ r. ⌜ r ≡ stepRefusal (given (now (log .entry))) (now (words .entry)) (now (positions .entry)) worker ⌝ }
 {
@@ -95,7 +95,7 @@ fn event_answer(words: &[u32], positions: &[u32], e: Event) -> u32
     0
 }
 
-// The answer of a step of worker w that is not refused by 1 to 11, 14 or 16.
+// The answer of a step of worker w that is not refused by the log's numbers, 14 or 16.
 fn answer(log: &[u8], words: &[u32], positions: &[u32], w: usize) -> u32
     requires { ⌜ (logRefusal (now log) ≡ 0) × IsState (workersOf (now log)) (now words) (now positions) ⌝ }
     ensures answer { λ r. ⌜ r ≡ machineAnswer (workersOf (now (log .entry))) (now (words .entry)) (now (positions .entry)) w ⌝ }

@@ -11,7 +11,7 @@ ghost use Rattle.replay.specs.Machine.{listed, answerWord};
 ghost use Rattle.replay.specs.Calls.{stepsRefusal, roomRefusal, restoreRefusal, machineRun, machineAfter};
 ghost use Rattle.replay.specs.Inner.State.{IsState};
 
-// Refusals 1 to 16 of a list of steps.
+// The log's refusals, then 14 and 16, of a list of steps.
 fn steps_refusal(log: &[u8], words: &[u32], positions: &[u32], others: u32) -> u32
     ensures answer { λ r. ⌜ r ≡ stepsRefusal (given (now (log .entry))) (now (words .entry)) (now (positions .entry)) others ⌝ }
 {
@@ -81,7 +81,7 @@ fn room_refusal(log: &[u8], calls: usize, positions: usize, steps: usize, totals
     )
 }
 
-// Refusals 1 to 15 of a plan with a list of step calls.
+// The log's refusals, then 12 to 15, of a plan with a list of step calls.
 pub fn restore_refusal(
     log: &[u8],
     worker: u32,
