@@ -132,6 +132,11 @@ def extended(log, more):
     return with_length(log + GAP * more)
 
 
+def in_form(log, form):
+    """The log with this form in its header."""
+    return struct.pack("<H", form) + log[2:]
+
+
 def case_file(worker, event, log):
     """The input of the program `plan`: worker and event of the breakpoint, then the log."""
     return struct.pack("<II", worker, event) + log

@@ -1,5 +1,6 @@
 #!/usr/bin/env python3
-"""Document 01 written in Python from its definitions. The expected output of the stored cases comes from here.
+"""Document 01, and form 2 of document 02, written in Python from the definitions. The expected output of the stored cases
+comes from here.
 
     scripts/reference.py --check    the values T1 to T10, and the definitions against brute force on random small logs
 
@@ -17,6 +18,9 @@ from collections import namedtuple
 import logs
 
 SEND, UNLOGGED, LOGGED = 1, 2, 3
+
+# The forms of a log. In the first a send may be received twice, in the second it is received at most once.
+REPEATS, ONCE = FORMS = (1, 2)
 
 # The largest worker count of a log.
 MAX_WORKERS = 64
@@ -61,15 +65,14 @@ def is_receive(event):
     return event.kind in (UNLOGGED, LOGGED)
 
 
-# ---- The log, and refusals 1 to 11
+# ---- The log, and refusals 1 to 11 and 24
 
 
-@functools.lru_cache(maxsize=None)
-def read(data):
+def read_anew(data):
     """The log of these bytes, or Refused."""
     refuse_if(not 8 <= len(data) <= 4194304, 1)
     form, n, length = struct.unpack_from("<HHI", data)
-    refuse_if(form != 1, 2)
+    refuse_if(form not in FORMS, 2)
     refuse_if(not 1 <= n <= MAX_WORKERS, 3)
     header = 8 + 20 * n
     refuse_if(length != len(data) or header > len(data), 4)
@@ -90,6 +93,7 @@ def read(data):
     for w in range(n):
         for c in range(len(checkpoints[w])):
             refuse_if(checkpoint_fault(events, checkpoints, w, c), 11)
+    refuse_if(form == ONCE and has_repeat(events), 24)
 
     roles = [entry[4] for entry in entries]
     events = [[Event(kind, peer, send, stamp) for kind, peer, spare, send, stamp in section] for section in events]
@@ -145,13 +149,31 @@ def checkpoint_fault(events, checkpoints, w, c):
     return index < before.index or identifier <= before.identifier
 
 
-def refusal(data):
-    """Refusals 1 to 11 of a log; 0 where it is accepted."""
+def has_repeat(events):
+    """24, of a form 2 log: two receives of one send, so that fewer events are named than there are receives."""
+    named = [(peer, send) for section in events for kind, peer, _, send, _ in section if kind != SEND]
+    return len(set(named)) < len(named)
+
+
+@functools.lru_cache(maxsize=None)
+def read_once(data):
+    """The log of these bytes and 0, or None and the number of its refusal. Each log is read one time."""
     try:
-        read(data)
-        return 0
+        return read_anew(data), 0
     except Refused as refused:
-        return refused.number
+        return None, refused.number
+
+
+def refusal(data):
+    """Refusals 1 to 11 and 24 of a log; 0 where it is accepted."""
+    return read_once(data)[1]
+
+
+def read(data):
+    """The log of these bytes, or Refused."""
+    log, number = read_once(data)
+    refuse_if(number != 0, number)
+    return log
 
 
 # ---- Happened before
@@ -561,8 +583,8 @@ def check_checkpoints():
         expect("a send before the checkpoint, " + kind, covers(log, 9), covered)
 
 
-def random_log(seed):
-    """A small log: receives of any earlier send, also twice; several checkpoints, also of one index."""
+def random_log(seed, form):
+    """A small log: receives of any earlier send, in form 1 also twice; several checkpoints, also of one index."""
     rng = random.Random(seed)
     n = rng.randint(1, 4)
     workers = [logs.Worker(rng.randint(0, 3)) for _ in range(n)]
@@ -571,7 +593,9 @@ def random_log(seed):
     for _ in range(rng.randint(1, 12) if n > 1 else 0):
         w = rng.randrange(n)
         if sends[w] and rng.random() < 0.6:
-            peer, send, stamp = rng.choice(sends[w])
+            peer, send, stamp = received = rng.choice(sends[w])
+            if form == ONCE:
+                sends[w].remove(received)
             stamps[w] = max(stamps[w], stamp) + rng.randint(1, 2)
             workers[w].events.append((rng.choice(["receive", "receive", "logged"]), peer, send, stamps[w]))
         else:
@@ -582,7 +606,7 @@ def random_log(seed):
     for worker in workers:
         indices = sorted(rng.randint(0, len(worker.events)) for _ in range(rng.randint(0, 3)))
         worker.checkpoints = [(index, 2 * c + rng.randint(1, 2)) for c, index in enumerate(indices)]
-    return logs.build(workers)
+    return logs.build(workers, form=form)
 
 
 def every_cut(log):
@@ -633,11 +657,57 @@ def check_plan(log, data, i, e):
     expect("steps", steps_call(data, words, starts, turns, [7] * len(turns)), (0, cut, answers))
 
 
+def every_call(data, n, worker, event, lent):
+    """What each call gives on a log of n workers, with so many words lent of each kind, each of them 7."""
+    words, workers = [7] * lent, [worker, 0, n - 1]
+    plan = plan_call(data, worker, event, words, lent)[5]
+    positions = onto(plan[1:3 * n:3], words)
+    return [
+        vector_call(data, worker, event, words),
+        upper_line_call(data, worker, event, words),
+        lower_cut_call(data, worker, event, words, lent),
+        cut_test_call(data, words),
+        cut_test_call(data, plan[0:3 * n:3]),
+        plan_call(data, worker, event, words, lent),
+        covers_call(data, event),
+        step_call(data, plan, positions, worker),
+        steps_call(data, plan, positions, workers, words),
+        restore_and_replay_call(data, worker, event, workers, words, lent, words, words, words),
+    ]
+
+
+def check_forms(data):
+    """A log in both forms: in form 2 it is refused by 24 exactly where two of its events are receives of one send, and then
+    every call gives 24; else every call gives what it gives in form 1. The value is whether it has such receives."""
+    first, second = (logs.in_form(data, form) for form in FORMS)
+    expect("form 1", refusal(first), 0)
+    log = read(first)
+    repeat = any(
+        is_receive(a) and is_receive(b) and a.peer == b.peer and a.send == b.send
+        for a, b in itertools.combinations([log.event(w, x) for w, x in log.every_event()], 2)
+    )
+    expect("form 2", refusal(second), 24 if repeat else 0)
+    out_of_range = [(log.n, 1)] + [(w, x) for w in range(log.n) for x in (0, log.count(w) + 1)]
+    enough = log.n * log.n + 3 * (log.n + 1)
+    for (i, e), lent in itertools.product(log.every_event() + out_of_range, (0, enough)):
+        found = every_call(second, log.n, i, e, lent)
+        if not repeat:
+            expect("both forms", found, every_call(first, log.n, i, e, lent))
+        for number, *rest in found if repeat else []:
+            expect("before every other number", number, 24)
+            assert all(value in (0, [7] * lent) for value in rest)
+        expect("printed", printed(logs.case_file(i, e, second)),
+            "refused 24\n" if repeat else printed(logs.case_file(i, e, first)))
+    return repeat
+
+
 def check_random(logs_tried):
-    """The number of breakpoints tried, and of those whose latest checkpoints are no plan."""
-    tried = lowered = 0
-    for seed in range(logs_tried):
-        data = random_log(seed)
+    """The number of logs with two receives of one send, of breakpoints tried, and of those whose latest checkpoints are no
+    plan."""
+    repeats = tried = lowered = 0
+    for seed, form in itertools.product(range(logs_tried), FORMS):
+        data = random_log(seed, form)
+        repeats += check_forms(data)
         log = read(data)
         for i, e in log.every_event():
             check_cuts(log, i, e)
@@ -645,14 +715,15 @@ def check_random(logs_tried):
             cut, _ = figure2(log, i, e)
             tried += 1
             lowered += plan_starts(log, cut) != [latest_index(log, w, cut[w]) for w in range(log.n)]
-    return tried, lowered
+    return repeats, tried, lowered
 
 
 def check():
     check_tube()
     check_checkpoints()
-    tried, lowered = check_random(400)
-    print("T1 to T10; %d breakpoints of 400 logs, %d of them with starts below the latest" % (tried, lowered))
+    repeats, tried, lowered = check_random(400)
+    print("T1 to T10; %d breakpoints of 400 logs of each form, %d of them with starts below the latest" % (tried, lowered))
+    print("each log in both forms, %d of them with two receives of one send" % repeats)
 
 
 if __name__ == "__main__":
