@@ -5,8 +5,9 @@
     scripts/make_cases.py --check    fail if a stored file is not what would be written
 
 A case file is an input of the program `plan`: worker, event, then the log. Each case below states its name, the number
-by which document 01, "Refused by the input", refuses its log (0: accepted), and the log. The number is written by hand,
-and reference.py must give the same. The calls are those of calls.py, the expected output is that of expected.py.
+by which document 01, "Refused by the input", or document 02, form 2, refuses its log (0: accepted), and the log. The number
+is written by hand, and reference.py must give the same. The calls are those of calls.py, the expected output is that of
+expected.py.
 """
 
 import os
@@ -15,7 +16,7 @@ import sys
 import reference
 from calls import listed
 from expected import case_lines
-from logs import Worker, build, case_file, cut_to, extended, tube
+from logs import Worker, build, case_file, cut_to, extended, in_form, tube
 from reference import MAX_WORKERS
 
 # The last of the most workers.
@@ -143,11 +144,16 @@ case("shared_event_has_its_own_worker_as_peer", 7, build(
 case("log_of_0_bytes", 1, b"")
 case("log_of_7_bytes", 1, bytes([1, 0, 1, 0, 7, 0, 0]))
 
-# ---- 2: "form not 1"
+# ---- 2: "a form that is neither" 1 nor 2
 
 case("form_0", 2, two(form=0))
-case("form_2", 2, two(form=2))
+case("form_2", 0, two(form=2))
+case("form_3", 2, two(form=3))
+# the lower byte is 1 or 2 and the upper one is not 0, or the bytes are those of form 2 exchanged
 case("form_257", 2, two(form=257))
+case("form_258", 2, two(form=258))
+case("form_512", 2, two(form=512))
+case("form_513", 2, two(form=513))
 
 # ---- 3: "n outside 1..64"
 
@@ -303,10 +309,155 @@ case("identifiers_start_anew_in_each_worker", 0, two(
 ), event=2)
 case("last_checkpoint_of_the_last_worker", 11, two(second_checkpoints=[(0, 1), (1, 2), (2, 2)]))
 
+# ---- 24: "a form 2 log with two receives of one send"; "Form 1 still permits repeats"
+
+TWICE = FIRST + [("receive", 1, 2, 5)]
+case("a_send_received_twice_in_form_2", 24, two(first=TWICE, form=2), event=3)
+case("tube_log_in_form_2", 0, in_form(tube(), 2), worker=0, event=2)
+assert reference.printed(CONTENT["tube_log_in_form_2"]) == reference.printed(CONTENT["tube_log"])
+# the repeat stands behind the last event that is counted: it is no event
+case("repeat_past_the_event_count", 0, two(first=TWICE, fields={(0, "event count"): 2}, form=2), event=2)
+case("repeat_with_sections_in_reverse_order", 24, two(
+    first=TWICE,
+    places=[("checkpoints", 1), ("events", 1), ("checkpoints", 0), ("events", 0)],
+    form=2,
+))
+# one of the two receives is with its data logged, or both are
+for name, kinds in (
+    ("logged_and_then_without_data", ("logged", "receive")),
+    ("without_data_and_then_logged", ("receive", "logged")),
+    ("logged_twice", ("logged", "logged")),
+):
+    case("a_send_received_" + name, 24, two(first=FIRST[:1] + [(kind, 1, 2, 4 + x) for x, kind in enumerate(kinds)], form=2))
+# receives of both kinds, of two sends
+case("a_logged_receive_and_one_without_data", 0, two(
+    first=[("send", 1, 1), ("logged", 1, 2, 5), ("receive", 1, 3, 6)],
+    second=SECOND + [("send", 0, 4)],
+    form=2,
+), event=3)
+
+
+def one_receives_twice(n, w):
+    """The n workers of each_to_the_next; worker w receives its message twice."""
+    workers = each_to_the_next(n)
+    workers[w].events.append(("receive", (w - 1) % n, 1, 3))
+    return workers
+
+
+# event 1 of every worker is received, each by another worker
+case("each_of_3_receives_once", 0, build(each_to_the_next(3), form=2), worker=2, event=2)
+case("first_of_3_receives_twice", 24, build(one_receives_twice(3, 0), form=2))
+case("last_of_3_receives_twice", 24, build(one_receives_twice(3, 2), form=2))
+case("first_of_64_receives_twice", 24, build(one_receives_twice(MAX_WORKERS, 0), form=2))
+case("last_of_64_receives_twice", 24, build(one_receives_twice(MAX_WORKERS, LAST), form=2))
+
+
+def received(named, senders=1, sends=4, first=False, shared=False, form=2):
+    """The last worker, or the first, receives sends of the others, each given by the sender's number and the send's index.
+
+    sends   how many each of the others has
+    shared  the events of all the others are the same bytes
+    """
+    n = senders + 1
+    receiver = 0 if first else senders
+    sending = [w for w in range(n) if w != receiver]
+    workers = [Worker(w % 4, [("send", receiver, x) for x in range(1, sends + 1)]) for w in range(n)]
+    workers[receiver].events = [("receive", sending[k], x, sends + y) for y, (k, x) in enumerate(named, 1)]
+    if not shared:
+        return build(workers, form=form)
+    offsets = {(w, "event offset"): 8 + 20 * n for w in sending}
+    return build(workers, places=[("events", sending[0]), ("events", receiver)], fields=offsets, form=form)
+
+
+def of_one(*named):
+    """The sends of the first sender with these indices."""
+    return [(0, x) for x in named]
+
+
+# The name has the indices of the sends in the order in which they are received: without a repeat rising, falling and mixed; the
+# repeat next to its first receive; the repeat farther away, of the smallest, of the largest and of another index.
+for named, number in (
+    ((1, 2, 3), 0), ((3, 2, 1), 0), ((2, 4, 1, 3), 0),
+    ((1, 2, 2, 3), 24), ((3, 2, 2, 1), 24),
+    ((1, 2, 3, 1), 24), ((3, 1, 2, 3), 24), ((2, 4, 1, 2, 3), 24),
+):
+    case("received_" + "_".join("%d" % x for x in named), number, received(of_one(*named)), worker=1, event=len(named))
+case("received_3_1_2_3_in_form_1", 0, received(of_one(3, 1, 2, 3), form=1), worker=1, event=4)
+
+# Two senders: a send is named by its sender and its index.
+for name, named, number in (
+    ("the_same_index_of_two_senders", ((0, 1), (1, 1)), 0),
+    ("two_senders_in_turn", ((1, 2), (0, 2), (1, 1), (0, 1)), 0),
+    ("repeat_after_a_receive_from_another_sender", ((0, 1), (1, 2), (0, 1)), 24),
+    ("repeat_of_the_first_of_two_senders_in_turn", ((0, 2), (1, 1), (0, 1), (1, 2), (0, 2)), 24),
+    ("repeat_of_the_last_of_two_senders_in_turn", ((0, 1), (1, 1), (0, 2), (1, 2), (0, 3), (1, 1)), 24),
+):
+    case(name, number, received(named, senders=2), worker=2, event=len(named))
+
+# Two sends of one worker whose indices are so far apart.
+for apart in (8, 64, 256, 4096):
+    case("sends_%d_apart" % apart, 0, received(of_one(1 + apart, 1), sends=1 + apart), worker=1, event=2)
+
+
+def far_apart(named, form=2):
+    """Worker 1 receives one of two sends of worker 0, sends 5,452 times and receives one again; the events of longest_input."""
+    between = [("send", 0, stamp) for stamp in range(4, 5456)]
+    events = [("receive", 0, named[0], 3)] + between + [("receive", 0, named[1], 5456)]
+    return build([Worker(0, [("send", 1, 1), ("send", 1, 2)]), Worker(0, events)], form=form)
+
+
+case("repeat_far_away", 24, far_apart((1, 1)), worker=1, event=5454)
+case("repeat_far_away_in_form_1", 0, far_apart((1, 1), form=1), worker=1, event=5454)
+case("receives_far_apart", 0, far_apart((2, 1)), worker=1, event=5454)
+# every send is received, the last one first; the repeat is of the send that was received first
+FALLING = of_one(*range(2727, 0, -1))
+case("receives_of_2727_sends_fall", 0, received(FALLING, sends=2727), worker=1, event=2727)
+case("receives_of_2727_sends_fall_and_one_repeated", 24, received(FALLING + FALLING[:1], sends=2727), worker=1, event=2728)
+
+# the one event of worker 1 is the second of worker 0, and worker 2 receives both: they are two sends of the same bytes
+case("two_sends_that_share_a_record", 0, build(
+    [
+        Worker(0, [("send", 2, 1), ("send", 2, 2)]),
+        Worker(0, [("send", 2, 2)]),
+        Worker(0, [("receive", 0, 2, 3), ("receive", 1, 1, 4)]),
+    ],
+    places=[("events", 0), ("events", 2)],
+    fields={(1, "event offset"): 68 + 12},
+    form=2,
+), worker=2, event=2)
+# worker 63 receives one send from each of the others, from the last of them first; they all share the bytes of the send
+EACH = [(k, 1) for k in range(LAST)][::-1]
+case("one_from_each_of_63_that_share_bytes", 0, received(EACH, LAST, sends=1, shared=True), worker=LAST, event=LAST)
+case("repeat_from_one_of_63_that_share_bytes", 24, received(EACH + EACH[:1], LAST, sends=1, shared=True), worker=LAST, event=1)
+
+
+def counted_case(name, number, count, named, senders, sends, first=False):
+    """Senders that share bytes, so that the count of all events is larger than that of the records."""
+    assert count == senders * sends + len(named), name
+    case(name, number, received(named, senders, sends, first, shared=True), worker=0 if first else senders, event=len(named))
+
+
+# indices that are the same in all senders, or differ by 8, 64, 256, 512 and 1,024
+MIXED = [(k, x) for x in (2000, 1025, 513, 257, 65, 9, 2, 1) for k in range(4, -1, -1)]
+counted_case("mixed_receives_in_10040_events", 0, 10040, MIXED, 5, 2000)
+counted_case("mixed_receives_in_10041_events_and_the_first_repeated", 24, 10041, MIXED + MIXED[:1], 5, 2000)
+counted_case("mixed_receives_in_10041_events_and_the_last_repeated", 24, 10041, MIXED + MIXED[-1:], 5, 2000)
+# the receiver is the first worker, so the last event of the log is a send that is received; its receive is repeated
+TO_THE_FIRST = [(3, 2046), (0, 1), (3, 1), (0, 2046), (1, 1024), (1, 1023), (2, 1025), (2, 2046), (2, 1)]
+counted_case("mixed_receives_in_8192_events", 0, 8192, TO_THE_FIRST[:8], 4, 2046, first=True)
+counted_case("mixed_receives_in_8192_events_and_one_repeated", 24, 8192, TO_THE_FIRST[:7] + TO_THE_FIRST[:1], 4, 2046, first=True)
+counted_case("mixed_receives_in_8193_events", 0, 8193, TO_THE_FIRST, 4, 2046, first=True)
+counted_case("mixed_receives_in_8193_events_and_one_repeated", 24, 8193, TO_THE_FIRST[:8] + TO_THE_FIRST[:1], 4, 2046, first=True)
+# where the events of the senders are counted on from one to the next, those of the last are 8,192 after those of the first
+APART = [(4, 1), (0, 1), (4, 2048), (0, 2048)]
+counted_case("sends_8192_apart_in_the_log", 0, 10244, APART, 5, 2048)
+counted_case("sends_8192_apart_in_the_log_and_one_repeated", 24, 10245, APART + APART[1:2], 5, 2048)
+
 # ---- Several numbers at once: "The smallest number that applies is given", over the whole log
 
-case("1_before_2", 1, bytes([2, 0, 1, 0, 7, 0, 0]))
-case("2_before_3", 2, build([], form=2))
+case("1_before_2", 1, bytes([3, 0, 1, 0, 7, 0, 0]))
+case("2_before_3", 2, build([], form=3))
+case("2_before_24", 2, two(first=TWICE, form=3))
 case("3_before_4", 3, two(size=MAX_WORKERS + 1, length=0))
 case("4_before_5", 4, two(length=111, roles=(4, 4)))
 case("5_in_the_last_worker_before_6_in_the_first", 5, two(roles=(0, 4), fields={(0, "event offset"): 0}))
@@ -353,8 +504,25 @@ case("4_5_6_and_7_at_once", 4, two(
     fields={(0, "checkpoint offset"): 4294967295},
     length=4294967295,
 ))
+case("8_and_24_in_one_event", 8, two(first=FIRST + [("receive", 1, 2, 4)], form=2))
+case("9_and_24_in_one_event", 9, two(first=FIRST + [("receive", 1, 1, 5), ("receive", 1, 1, 6)], form=2))
+case("10_in_the_last_worker_before_24_in_the_first", 10, two(
+    first=TWICE,
+    second=[("receive", 0, 1, 1), ("send", 0, 3)],
+    form=2,
+))
+case("11_in_the_last_worker_before_24_in_the_first", 11, two(first=TWICE, second_checkpoints=[(2, 0)], form=2))
+case("11_in_the_first_worker_before_24_in_the_last", 11, two(
+    first_checkpoints=[(3, 1)],
+    second=SECOND + [("receive", 0, 1, 4)],
+    form=2,
+))
 # for `plan`: the worker is past the last one, and the event is 0
 case("11_before_the_breakpoint", 11, two(second_checkpoints=[(1, 0)]), worker=2, event=0)
+# 24 is given before 12 and 13, which are given in form 1: the worker is past the last one, or the event is 0
+for worker, event in ((2, 1), (0, 0)):
+    case("24_before_the_breakpoint_%d_%d" % (worker, event), 24, two(first=TWICE, form=2), worker, event)
+    case("a_send_received_twice_refused_%d_%d" % (worker, event), 0, two(first=TWICE), worker, event)
 
 
 # ---- Accepted logs for the vector, the lower cut, the upper line and the cut test
