@@ -1,4 +1,4 @@
-//! The calls of document 01, written in Rust from its text alone.
+//! The calls of document 01 and form 2 of the log (document 02, note 1), written in Rust from their text alone.
 //!
 //! Tests and benchmarks compare the exported functions with these. Each call has the parameters of the exported function of its
 //! name and does the same with every lent word: a refusal returns its number and changes none; on success the words past those
@@ -9,10 +9,11 @@
 
 mod causality;
 mod log;
+mod repeats;
 mod replay;
 mod restore;
 
 pub use causality::{cut_test, lower_cut, upper_line, vector};
-pub use log::{accept, log_refusal, Checkpoint, Event, Log, Worker, MAX_WORKERS};
+pub use log::{accept, log_refusal, Checkpoint, Event, Form, Log, Worker, FORMS, MAX_WORKERS};
 pub use replay::{restore_and_replay, step, steps};
 pub use restore::{covers, plan};

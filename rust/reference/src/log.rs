@@ -1,7 +1,30 @@
-//! The layout of a log and refusals 1 to 13.
+//! The layout of a log and refusals 1 to 13 and 24.
+
+use crate::repeats::some_send_received_twice;
 
 /// The largest worker count of a log.
 pub const MAX_WORKERS: usize = 64;
+
+/// The forms of a log.
+pub const FORMS: [Form; 2] = [
+    Form {
+        number: 1,
+        repeats: true,
+    },
+    Form {
+        number: 2,
+        repeats: false,
+    },
+];
+
+/// A form of a log. All have one layout.
+#[derive(Clone, Copy, Debug, PartialEq, Eq)]
+pub struct Form {
+    /// The number in the log's first two bytes.
+    pub number: u16,
+    /// Whether a send may be received more than once.
+    pub repeats: bool,
+}
 
 /// An event record.
 #[derive(Clone, Copy, Debug, PartialEq, Eq)]
@@ -32,13 +55,15 @@ pub struct Checkpoint {
 pub struct Worker<'a> {
     /// The role, 0 to 3.
     pub role: u32,
-    events: &'a [[u8; 12]],
+    pub(crate) events: &'a [[u8; 12]],
     checkpoints: &'a [[u8; 8]],
 }
 
 /// A log that has been accepted.
 #[derive(Clone, Debug)]
 pub struct Log<'a> {
+    /// The form.
+    pub form: Form,
     /// The workers, in order.
     pub workers: Vec<Worker<'a>>,
 }
@@ -52,7 +77,7 @@ fn half(bytes: &[u8], at: usize) -> u16 {
 }
 
 impl Event {
-    fn of(record: &[u8; 12]) -> Event {
+    pub(crate) fn of(record: &[u8; 12]) -> Event {
         Event {
             kind: record[0],
             peer: record[1],
@@ -158,9 +183,9 @@ fn layout(log: &[u8]) -> Result<Log<'_>, u32> {
     if !(8..=4_194_304).contains(&log.len()) {
         return Err(1);
     }
-    if half(log, 0) != 1 {
-        return Err(2);
-    }
+    let number = half(log, 0);
+    let form = FORMS.into_iter().find(|form| form.number == number);
+    let form = form.ok_or(2u32)?;
     let size = usize::from(half(log, 2));
     if !(1..=MAX_WORKERS).contains(&size) {
         return Err(3);
@@ -194,7 +219,7 @@ fn layout(log: &[u8]) -> Result<Log<'_>, u32> {
             })
         })
         .collect::<Result<_, u32>>()?;
-    Ok(Log { workers })
+    Ok(Log { form, workers })
 }
 
 /// The events of each worker that are tested in turn: what a receive names was sent shortly before it and is still in the cache.
@@ -247,7 +272,7 @@ fn block_faulty(log: &Log, w: usize, first: usize) -> bool {
     })
 }
 
-/// The smallest of 7 to 11 that some record of the log has; 0 if none.
+/// The first of 7 to 11 and 24 that applies; 0 if none does.
 fn content(log: &Log) -> u32 {
     let faulty = |w: &Worker| {
         let mut previous = Checkpoint::default();
@@ -263,6 +288,8 @@ fn content(log: &Log) -> u32 {
         lowest_of_events(log)
     } else if log.workers.iter().any(faulty) {
         11
+    } else if !log.form.repeats && some_send_received_twice(log) {
+        24
     } else {
         0
     }
@@ -309,7 +336,7 @@ fn lowest_of_events(log: &Log) -> u32 {
     lowest
 }
 
-/// The log, or its refusal of 1 to 11.
+/// The log, or its refusal: 1 to 11 or 24.
 pub fn accept(log: &[u8]) -> Result<Log<'_>, u32> {
     let accepted = layout(log)?;
     match content(&accepted) {
@@ -318,7 +345,7 @@ pub fn accept(log: &[u8]) -> Result<Log<'_>, u32> {
     }
 }
 
-/// 0 for an accepted log, else 1 to 11.
+/// 0 for an accepted log, else 1 to 11 or 24.
 pub fn log_refusal(log: &[u8]) -> u32 {
     accept(log).err().unwrap_or(0)
 }
@@ -337,7 +364,7 @@ pub(crate) fn refuse_if(condition: bool, number: u32) -> Result<(), u32> {
     }
 }
 
-/// Refusals 1 to 13 of a call that is given a log, a worker and an event, or the log and the worker.
+/// The refusals of a log, then 12 and 13, of a call that is given a log, a worker and an event; or the log and the worker.
 pub(crate) fn breakpoint(log: &[u8], worker: u32, event: u32) -> Result<(Log<'_>, usize), u32> {
     let log = accept(log)?;
     let i = worker as usize;
