@@ -121,7 +121,7 @@ mod exported {
     }
 }
 
-/// 0 for an accepted log, else 1 to 11.
+/// 0 for an accepted log, else 1 to 11 or 24.
 pub fn log_refusal(log: &[u8]) -> u32 {
     // SAFETY: each pointer goes with the length of its slice, which is borrowed for the whole call, alone where it is mutable.
     unsafe { exported::log_refusal(log.as_ptr(), log.len()) }

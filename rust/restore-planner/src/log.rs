@@ -5,7 +5,8 @@ use crate::replay::StepRecord;
 use crate::{calls, header, Breakpoint, LowerCut, Plan, Refusal, Restored};
 use std::fmt;
 
-/// An accepted log, on bytes that it borrows.
+/// An accepted log, of form 1 or 2, on bytes that it borrows. The forms differ in that a log of form 1 may have two receives of one
+/// send; every method does the same for both.
 ///
 /// ```
 /// use restore_planner::{Breakpoint, Log, Refusal};
@@ -31,7 +32,7 @@ impl<'a> Log<'a> {
     ///
     /// # Errors
     ///
-    /// Refusals 1 to 11, where the bytes are no log. Behind this call no method of the log gives any of these.
+    /// Refusals 1 to 11 and 24, where the bytes are no log. Behind this call no method of the log gives any of these.
     pub fn new(bytes: &'a [u8]) -> Result<Log<'a>, Refusal> {
         Refusal::check(calls::log_refusal(bytes))?;
         Ok(Log {

@@ -5,13 +5,14 @@ use std::fmt;
 
 /// Why a log or an argument was not accepted.
 ///
-/// Of the conditions that apply, the one with the smallest number is given. [`Refusal::number`] is the number of document 01.
+/// Of the conditions that apply, the one with the smallest number is given, where 24 counts as being between 11 and 12.
+/// [`Refusal::number`] is the number of document 01; 24 is that of document 02, note 1.
 #[derive(Clone, Copy, Debug, PartialEq, Eq, Hash)]
 #[non_exhaustive]
 pub enum Refusal {
     /// 1: the log is under 8 or over 4,194,304 bytes.
     LogLength,
-    /// 2: the log's form is not 1.
+    /// 2: the log's form is neither 1 nor 2.
     Form,
     /// 3: the log's worker count is outside 1 to 64.
     WorkerCount,
@@ -41,13 +42,15 @@ pub enum Refusal {
     Scratch,
     /// 16: a cut is over its worker's event count; for a step, some worker is without start ≤ position ≤ cut ≤ event count.
     Cut,
+    /// 24: the log is of form 2, and two receives name one send. It is tested after 11 and before 12.
+    Repeat,
     /// A number that this library does not know.
     Unlisted(u32),
 }
 
 impl Refusal {
     /// The refusals by rising number, [`Refusal::Unlisted`] excepted.
-    pub const LISTED: [Refusal; 16] = [
+    pub const LISTED: [Refusal; 17] = [
         Refusal::LogLength,
         Refusal::Form,
         Refusal::WorkerCount,
@@ -64,6 +67,7 @@ impl Refusal {
         Refusal::Words,
         Refusal::Scratch,
         Refusal::Cut,
+        Refusal::Repeat,
     ];
 
     /// What the number of a call means, for numbers that come from [`calls`](crate::calls). A step's number has its own meanings:
@@ -82,7 +86,7 @@ impl Refusal {
             .unwrap_or(Refusal::Unlisted(number)))
     }
 
-    /// The number of document 01.
+    /// The number of document 01 or, for 24, of document 02.
     pub fn number(self) -> u32 {
         match self {
             Refusal::LogLength => 1,
@@ -101,6 +105,7 @@ impl Refusal {
             Refusal::Words => 14,
             Refusal::Scratch => 15,
             Refusal::Cut => 16,
+            Refusal::Repeat => 24,
             Refusal::Unlisted(number) => number,
         }
     }
@@ -109,7 +114,7 @@ impl Refusal {
         match self {
             Refusal::LogLength => "the log is shorter than 8 bytes or longer than 4,194,304",
             Refusal::Form => {
-                "these bytes are not a log of form 1, which the first two bytes must give"
+                "these bytes are not a log of form 1 or 2, one of which the first two bytes must give"
             }
             Refusal::WorkerCount => "the log's header gives no workers or more than 64",
             Refusal::Header => {
@@ -148,6 +153,9 @@ impl Refusal {
             }
             Refusal::Cut => {
                 "a worker's cut is past its last event, or its position is not between its start and its cut"
+            }
+            Refusal::Repeat => {
+                "two receives in the log name the same send, which a log of form 2 does not allow"
             }
             Refusal::Unlisted(_) => {
                 "the planner gave a number that this version of the library does not know"

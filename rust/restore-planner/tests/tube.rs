@@ -23,9 +23,9 @@ fn refused(bytes: &[u8]) -> Refusal {
 }
 
 #[test]
-fn refusals_have_the_numbers_of_document_01() {
+fn refusals_have_the_numbers_of_documents_01_and_02() {
     let numbers: Vec<u32> = Refusal::LISTED.iter().map(|r| r.number()).collect();
-    assert_eq!(numbers, (1..=16).collect::<Vec<u32>>());
+    assert_eq!(numbers, (1..=16).chain([24]).collect::<Vec<u32>>());
     assert_eq!(Refusal::check(0), Ok(()));
     for refusal in Refusal::LISTED {
         assert_eq!(Refusal::check(refusal.number()), Err(refusal));
@@ -83,6 +83,72 @@ fn logs_are_accepted_or_refused() {
     assert_eq!(refused(&TUBE[1..]), Refusal::Form);
     assert_eq!(refused(&[1, 0, 255, 255, 8, 0, 0, 0]), Refusal::WorkerCount);
     assert_eq!(refused(&TUBE[..211]), Refusal::Header);
+}
+
+/// The tube log with another form.
+fn tube_of_form(form: u16) -> Vec<u8> {
+    let mut bytes = TUBE.to_vec();
+    bytes[..2].copy_from_slice(&form.to_le_bytes());
+    bytes
+}
+
+#[test]
+fn the_tube_log_of_either_form() {
+    for form in [0, 3, 0x0101, 0x0102, 0x0200, u16::MAX] {
+        assert_eq!(refused(&tube_of_form(form)), Refusal::Form);
+    }
+    assert_eq!(tube_of_form(1), TUBE);
+    let bytes = tube_of_form(2);
+    let (log, other) = (Log::new(&bytes).unwrap(), tube());
+    assert_eq!(log.worker_count(), 3);
+    assert_eq!(log.plan(AT).unwrap(), tube_plan());
+    for (worker, count) in [(0, 3), (1, 4), (2, 3)] {
+        for event in 0..=count + 1 {
+            let at = at(worker, event);
+            assert_eq!(log.vector(at), other.vector(at));
+            assert_eq!(log.lower_cut(at), other.lower_cut(at));
+            assert_eq!(log.upper_line(at), other.upper_line(at));
+            assert_eq!(log.plan(at), other.plan(at));
+            let list = [2, 2, 1, 3, 1, 0, 0];
+            let restored = log.restore_and_replay(at, &list);
+            assert_eq!(restored, other.restore_and_replay(at, &list));
+        }
+    }
+    let mut replay = Replay::new(&log, &tube_plan()).unwrap();
+    while let Advance::Stepped(_) = replay.advance().unwrap() {}
+    assert!(replay.is_finished());
+}
+
+/// Where the last event of worker 0, a send that worker 1 receives, and that receive stand in the tube log.
+const LAST_OF_0: usize = 92;
+const LAST_OF_1: usize = 148;
+
+/// The tube log of a form in which event 4 of worker 1 receives 2/2, as its event 2 does.
+fn repeating_tube(form: u16) -> Vec<u8> {
+    let mut bytes = tube_of_form(form);
+    assert_eq!(bytes[LAST_OF_1..LAST_OF_1 + 8], [2, 0, 0, 0, 3, 0, 0, 0]);
+    bytes[LAST_OF_1 + 1] = 2;
+    bytes[LAST_OF_1 + 4] = 2;
+    bytes
+}
+
+#[test]
+fn two_receives_of_one_send() {
+    assert!(Log::new(&repeating_tube(1)).is_ok());
+    assert_eq!(refused(&repeating_tube(2)), Refusal::Repeat);
+    assert_eq!(Refusal::Repeat.number(), 24);
+    assert_eq!(
+        Refusal::Repeat.to_string(),
+        "two receives in the log name the same send, which a log of form 2 does not allow (refusal 24)"
+    );
+    // The data of one of the two are logged.
+    let mut bytes = repeating_tube(2);
+    bytes[LAST_OF_1] = 3;
+    assert_eq!(refused(&bytes), Refusal::Repeat);
+    // A fault that is tested before: the stamp of the last event of worker 0 is that of its event before.
+    let mut bytes = repeating_tube(2);
+    bytes[LAST_OF_0 + 8] = 5;
+    assert_eq!(refused(&bytes), Refusal::Stamp);
 }
 
 #[test]
