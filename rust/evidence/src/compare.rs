@@ -808,33 +808,78 @@ pub fn every_call(random: &mut Random, log: &[u8], seen: &mut Seen) {
             replays(random, log, &accepted, seen);
             tests(random, log, &accepted, seen);
         }
-        Err(_) => refused(random, log),
+        Err(number) => refused(random, log, number, seen),
     }
 }
 
-/// Compares every call on a log that 1 to 11 refuse: nothing that is lent changes.
-fn refused(random: &mut Random, log: &[u8]) {
-    let worker = random.below(70) as u32;
+/// Compares every call on a log that is refused by this number: each call gives it before its own numbers, and nothing that is lent
+/// changes. Half of the calls are given enough words.
+fn refused(random: &mut Random, log: &[u8], number: u32, seen: &mut Seen) {
+    let n = if random.chance(500) {
+        worker_count(log).min(MAX_WORKERS)
+    } else {
+        random.within(0, MAX_WORKERS)
+    };
+    let bound = random.pick(&[n, n, 70]);
+    let worker = random.below(bound) as u32;
+    let at_event = refused_at_event(random, log, worker, n);
+    let others = refused_states(random, log, worker, n);
+    for (name, found) in at_event.into_iter().chain(others) {
+        let call = Call {
+            name,
+            random,
+            log,
+            arguments: &[],
+        };
+        call.returned(found, number);
+        seen.add(found);
+    }
+}
+
+/// Compares the calls that are given an event, on a log that is refused; gives the name and the number of each.
+fn refused_at_event(
+    random: &mut Random,
+    log: &[u8],
+    worker: u32,
+    n: usize,
+) -> [(&'static str, u32); 5] {
     let event = random.below(5) as u32;
-    let n = random.within(0, MAX_WORKERS);
-    vector(random, log, worker, event, n);
-    let plan: Vec<u32> = (0..3 * n).map(|_| random.word()).collect();
-    let positions: Vec<u32> = (0..n).map(|_| random.word()).collect();
-    step(random, log, &plan, &positions, worker);
     let lengths = Lengths {
         words: 3 * n,
         scratch: n * n,
         totals: random.below(5),
     };
-    upper_line(random, log, worker, event, n);
-    lower_cut(random, log, worker, event, lengths);
-    crate::compare::plan(random, log, worker, event, lengths);
-    cut_test(random, log, &positions, n.min(2));
-    covers(random, log, worker, n.min(2));
-    steps(random, log, &plan, &positions, &[0, 1, 2], 4);
     let list: Vec<u32> = (0..random.below(4)).map(|_| random.word()).collect();
     let room = Room::any(random, n, list.len());
-    restore_and_replay(random, log, worker, event, &list, room);
+    let replayed = restore_and_replay(random, log, worker, event, &list, room);
+    [
+        ("vector", vector(random, log, worker, event, n)),
+        ("upper_line", upper_line(random, log, worker, event, n)),
+        ("lower_cut", lower_cut(random, log, worker, event, lengths)),
+        ("plan", plan(random, log, worker, event, lengths)),
+        ("restore_and_replay", replayed.number()),
+    ]
+}
+
+/// Compares the other calls on a log that is refused.
+fn refused_states(
+    random: &mut Random,
+    log: &[u8],
+    worker: u32,
+    n: usize,
+) -> [(&'static str, u32); 4] {
+    let words: Vec<u32> = (0..3 * n).map(|_| random.word()).collect();
+    let positions: Vec<u32> = (0..n).map(|_| random.word()).collect();
+    let cut = &positions;
+    [
+        ("cut_test", cut_test(random, log, cut, n.min(2))),
+        ("covers", covers(random, log, worker, n.min(2))),
+        ("step", step(random, log, &words, &positions, worker).0),
+        (
+            "steps",
+            steps(random, log, &words, &positions, &[0, 1, 2], 4),
+        ),
+    ]
 }
 
 /// Compares the calls that are given an event.

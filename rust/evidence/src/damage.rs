@@ -1,19 +1,21 @@
 //! Damaged logs.
 
-use crate::description::{get, put, MAX_WORKERS};
+use crate::description::{get, put, set_form, MAX_WORKERS};
 use crate::random::Random;
 
 /// The log with one to three faults, or what were meant to be faults.
 pub fn damaged(log: &[u8], random: &mut Random) -> Vec<u8> {
     let mut log = log.to_vec();
     for _ in 0..random.pick(&[1, 1, 1, 2, 3]) {
-        match random.below(10) {
+        match random.below(13) {
             0 => flip(&mut log, random),
             1 => edit_start(&mut log, random),
             2 => edit_entry(&mut log, random),
             3 => resize(&mut log, random),
             4 => edit_checkpoint(&mut log, random),
             5 => swap_events(&mut log, random),
+            6 => change_form(&mut log, random),
+            7 | 8 => repeat_receive(&mut log, random),
             _ => edit_event(&mut log, random),
         }
     }
@@ -25,7 +27,7 @@ pub fn garbage(random: &mut Random) -> Vec<u8> {
     let length = random.pick(&[0, 1, 7, 8, 9, 27, 28, 29, 48, 100, 500, 2_000]);
     let mut log = random.bytes(length);
     if length >= 8 && random.chance(800) {
-        log[0..2].copy_from_slice(&[1, 0]);
+        set_form(&mut log, random.pick(&[1, 2]));
         let n = random.within(0, 5) as u8;
         log[2..4].copy_from_slice(&[n, 0]);
         put(&mut log, 4, length as u32);
@@ -57,13 +59,20 @@ fn edit_start(log: &mut [u8], random: &mut Random) {
     }
     let number = random.pick(&[0, 1, 2, 3, MAX_WORKERS, MAX_WORKERS + 1, 256, 257, 65_535]) as u16;
     match random.below(4) {
-        0 => log[0..2].copy_from_slice(&number.to_le_bytes()),
+        0 => set_form(log, number),
         1 | 2 => log[2..4].copy_from_slice(&number.to_le_bytes()),
         _ => {
             let length = get(log, 4);
             let other = random.pick(&[length.wrapping_add(1), length.wrapping_sub(1), 0, u32::MAX]);
             put(log, 4, other);
         }
+    }
+}
+
+/// Another form, most often one that there is.
+fn change_form(log: &mut [u8], random: &mut Random) {
+    if log.len() >= 2 {
+        set_form(log, random.pick(&[1, 1, 2, 2, 2, 2, 3, 0x101, 0x201]));
     }
 }
 
@@ -74,7 +83,7 @@ fn any_entry(log: &[u8], random: &mut Random) -> Option<usize> {
     (entries > 0).then(|| 8 + 20 * random.below(entries))
 }
 
-/// The place of any record that lies in the log.
+/// The place of any record that lies in the log, and its index.
 fn any_record(
     log: &[u8],
     random: &mut Random,
@@ -82,8 +91,18 @@ fn any_record(
     size: usize,
 ) -> Option<(usize, usize)> {
     let entry = any_entry(log, random)?;
-    let count = get(log, entry + count_field) as usize;
-    let offset = get(log, entry + count_field + 4) as usize;
+    record_of(log, random, entry + count_field, size)
+}
+
+/// The place of any record that lies in the log, of the section whose count is at this place, and its index.
+fn record_of(
+    log: &[u8],
+    random: &mut Random,
+    count_field: usize,
+    size: usize,
+) -> Option<(usize, usize)> {
+    let count = get(log, count_field) as usize;
+    let offset = get(log, count_field + 4) as usize;
     if count == 0 || count > 65_535 {
         return None;
     }
@@ -163,6 +182,25 @@ fn swap_events(log: &mut [u8], random: &mut Random) {
     if a.abs_diff(b) >= 12 {
         for k in 0..12 {
             log.swap(a + k, b + k);
+        }
+    }
+}
+
+/// Makes an event of a worker a receive of the send that another one of its events names. Its stamp and most often its kind stay.
+fn repeat_receive(log: &mut [u8], random: &mut Random) {
+    let Some(entry) = any_entry(log, random) else {
+        return;
+    };
+    for _ in 0..10 {
+        let from = record_of(log, random, entry, 12);
+        let to = record_of(log, random, entry, 12);
+        let (Some((from, _)), Some((to, _))) = (from, to) else {
+            return;
+        };
+        if from != to && log[from] != 1 {
+            log[to] = random.pick(&[log[to].max(2), 2, 3]);
+            log.copy_within(from + 1..from + 8, to + 1);
+            return;
         }
     }
 }

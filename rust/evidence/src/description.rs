@@ -5,6 +5,9 @@ use crate::random::Random;
 /// The longest log.
 pub const MAX_LOG: usize = 4_194_304;
 
+/// The most events of a worker.
+pub const MAX_EVENTS: u32 = 65_535;
+
 pub use reference::MAX_WORKERS;
 
 /// The words of a plan of the most workers.
@@ -47,7 +50,8 @@ impl Event {
         }
     }
 
-    fn bytes(&self) -> [u8; 12] {
+    /// The event's record.
+    pub fn bytes(&self) -> [u8; 12] {
         let mut bytes = [0; 12];
         bytes[0] = self.kind;
         bytes[1] = self.peer;
@@ -87,6 +91,11 @@ impl Worker {
 pub struct Description {
     /// The workers, in order.
     pub workers: Vec<Worker>,
+}
+
+/// Writes a log's form.
+pub fn set_form(log: &mut [u8], form: u16) {
+    log[0..2].copy_from_slice(&form.to_le_bytes());
 }
 
 /// Writes a 32-bit number at a place of the log.
@@ -154,13 +163,43 @@ impl Description {
         self.workers.iter().map(|w| w.events.len()).sum()
     }
 
+    /// How many receives name a send that another receive has named. A log without any may have form 2.
+    pub fn repeats(&self) -> usize {
+        let events = self.workers.iter().flat_map(|w| &w.events);
+        let mut named: Vec<(u8, u32)> = events
+            .filter(|event| event.kind != 1)
+            .map(|event| (event.peer, event.send))
+            .collect();
+        let receives = named.len();
+        named.sort_unstable();
+        named.dedup();
+        receives - named.len()
+    }
+
+    /// The places of a worker's receives among its events, from 0.
+    pub fn receives(&self, worker: usize) -> Vec<usize> {
+        let events = &self.workers[worker].events;
+        (0..events.len())
+            .filter(|&at| events[at].kind != 1)
+            .collect()
+    }
+
+    /// Makes the event at place `to` of a worker a receive of the send that the one at place `from` names, with the stamp that it has.
+    /// It has to be no send that is received, and its stamp above that of the send.
+    pub fn repeat(&mut self, worker: usize, from: usize, to: usize) {
+        let events = &mut self.workers[worker].events;
+        let Event { peer, send, .. } = events[from];
+        let Event { kind, stamp, .. } = events[to];
+        events[to] = Event::receive(kind.max(2), peer.into(), send, stamp);
+    }
+
     fn header_length(&self) -> usize {
         8 + 20 * self.workers.len()
     }
 
-    fn start(&self) -> Vec<u8> {
+    fn start(&self, form: u16) -> Vec<u8> {
         let mut log = vec![0; self.header_length()];
-        log[0] = 1;
+        set_form(&mut log, form);
         log[2..4].copy_from_slice(&(self.workers.len() as u16).to_le_bytes());
         for (w, worker) in self.workers.iter().enumerate() {
             put(&mut log, 8 + 20 * w, worker.events.len() as u32);
@@ -176,9 +215,14 @@ impl Description {
         log
     }
 
-    /// The log with each worker's events and then its checkpoints, in worker order, without gaps.
+    /// The log of form 1 with each worker's events and then its checkpoints, in worker order, without gaps.
     pub fn pack(&self) -> Vec<u8> {
-        let mut log = self.start();
+        self.pack_as(1)
+    }
+
+    /// The log of a form, packed.
+    pub fn pack_as(&self, form: u16) -> Vec<u8> {
+        let mut log = self.start(form);
         for (w, worker) in self.workers.iter().enumerate() {
             let offset = log.len() as u32;
             put(&mut log, 12 + 20 * w, offset);
@@ -190,9 +234,10 @@ impl Description {
         Description::finish(log)
     }
 
-    /// The log with its sections in any order, with gaps of any bytes, and sharing bytes where a section's bytes are there already.
-    pub fn lay_out(&self, random: &mut Random) -> Vec<u8> {
-        let mut log = self.start();
+    /// The log of a form with its sections in any order, with gaps of any bytes, and sharing bytes where a section's bytes are there
+    /// already.
+    pub fn lay_out(&self, form: u16, random: &mut Random) -> Vec<u8> {
+        let mut log = self.start(form);
         let header = log.len();
         let mut sections: Vec<(usize, Vec<u8>)> = Vec::new();
         for (w, worker) in self.workers.iter().enumerate() {

@@ -10,3 +10,4 @@ pub mod description;
 pub mod failure;
 pub mod random;
 pub mod runs;
+pub mod sides;

@@ -1,9 +1,20 @@
 //! Logs of simulated runs, and logs of a given shape.
 
 use crate::description::{
-    get, put, worker_count, Description, Event, Worker, MAX_LOG, MAX_WORKERS,
+    get, put, worker_count, Description, Event, Worker, MAX_EVENTS, MAX_LOG, MAX_WORKERS,
 };
 use crate::random::Random;
+
+/// Which of the sends to its worker a receive may take.
+#[derive(Clone, Copy, Debug, PartialEq, Eq)]
+pub enum Taken {
+    /// Any, one that was received before too.
+    Repeatedly,
+    /// One that was not received, nor a later one of its sender: the sends of each sender are received in their order.
+    InOrder,
+    /// One that was not received.
+    Once,
+}
 
 /// What a simulated run is like. Shares are of 1,000.
 #[derive(Clone, Debug)]
@@ -16,8 +27,10 @@ pub struct Shape {
     pub receives: usize,
     /// The share of receives with their data logged.
     pub logged: usize,
-    /// The share of receives that take any send to the worker, an early or received one too; the others take a late one.
+    /// The share of receives that take any send that they may, an early one too; the others take a late one.
     pub any: usize,
+    /// Which sends they may take.
+    pub taken: Taken,
     /// The share of events after which the worker takes a checkpoint.
     pub checkpoints: usize,
     /// The checkpoint sets, which most or all workers take with one identifier.
@@ -39,6 +52,7 @@ impl Shape {
             receives: random.pick(&[100, 300, 500, 700, 950]),
             logged: random.pick(&[0, 100, 500, 900, 1_000]),
             any: random.pick(&[0, 50, 300, 1_000]),
+            taken: random.pick(&[Taken::Repeatedly, Taken::InOrder, Taken::Once]),
             checkpoints: random.pick(&[0, 20, 100, 400]),
             sets: random.within(0, 6),
             joined: random.pick(&[700, 950, 1_000]),
@@ -46,7 +60,7 @@ impl Shape {
         }
     }
 
-    /// A shape for long runs: half receives, checkpoints now and then, sets that all workers take.
+    /// A shape for long runs: half receives, some sends received twice, checkpoints now and then, sets that all workers take.
     pub fn long(workers: usize, events: usize) -> Shape {
         Shape {
             workers,
@@ -54,10 +68,28 @@ impl Shape {
             receives: 500,
             logged: 300,
             any: 50,
+            taken: Taken::Repeatedly,
             checkpoints: 10,
             sets: 20,
             joined: 1_000,
             stamp_step: 3,
+        }
+    }
+
+    /// A long run for form 2: no send is received twice, and those of each sender are received in their order.
+    pub fn in_order(workers: usize, events: usize) -> Shape {
+        Shape {
+            taken: Taken::InOrder,
+            ..Shape::long(workers, events)
+        }
+    }
+
+    /// A long run for form 2: no send is received twice, and a receive takes any of those that were not received.
+    pub fn any_order(workers: usize, events: usize) -> Shape {
+        Shape {
+            any: 1_000,
+            taken: Taken::Once,
+            ..Shape::long(workers, events)
         }
     }
 }
@@ -67,10 +99,13 @@ struct Run<'a> {
     random: &'a mut Random,
     workers: Vec<Worker>,
     stamps: Vec<u32>,
-    /// For each worker the sends to it: sender, index, stamp.
-    sent: Vec<Vec<(usize, u32, u32)>>,
+    /// For each worker the sends that it may receive.
+    sent: Vec<Vec<Sent>>,
     identifier: u32,
 }
+
+/// A send: sender, index, stamp.
+type Sent = (usize, u32, u32);
 
 impl Run<'_> {
     fn checkpoint(&mut self, w: usize, identifier: u32) {
@@ -96,16 +131,39 @@ impl Run<'_> {
         }
     }
 
+    /// The send that a receive of a worker takes, of those that it may.
+    fn take(&mut self, w: usize, shape: &Shape) -> Sent {
+        let waiting = self.sent[w].len();
+        let at = if self.random.chance(shape.any) {
+            self.random.below(waiting)
+        } else {
+            waiting - 1 - self.random.below(waiting.min(4))
+        };
+        match shape.taken {
+            Taken::Repeatedly => self.sent[w][at],
+            Taken::Once => self.sent[w].swap_remove(at),
+            Taken::InOrder => {
+                // Some sends are passed over, for good.
+                let pass_over = self.random.chance(shape.any);
+                self.take_in_order(w, at, pass_over)
+            }
+        }
+    }
+
+    /// The send at this place of those to a worker, or the sender's first one there.
+    fn take_in_order(&mut self, w: usize, at: usize, pass_over: bool) -> Sent {
+        let sent = &mut self.sent[w];
+        let (from, ..) = sent[at];
+        let first = sent.iter().position(|&(sender, ..)| sender == from);
+        let taken = sent[if pass_over { at } else { first.unwrap_or(at) }];
+        sent.retain(|&(sender, index, _)| sender != from || index > taken.1);
+        taken
+    }
+
     fn event(&mut self, w: usize, shape: &Shape) {
         let step = self.random.within(1, shape.stamp_step) as u32;
-        let waiting = self.sent[w].len();
-        let event = if waiting > 0 && self.random.chance(shape.receives) {
-            let at = if self.random.chance(shape.any) {
-                self.random.below(waiting)
-            } else {
-                waiting - 1 - self.random.below(waiting.min(4))
-            };
-            let (from, index, stamp) = self.sent[w][at];
+        let event = if !self.sent[w].is_empty() && self.random.chance(shape.receives) {
+            let (from, index, stamp) = self.take(w, shape);
             let kind = if self.random.chance(shape.logged) {
                 3
             } else {
@@ -124,7 +182,7 @@ impl Run<'_> {
     }
 }
 
-/// The log of a simulated run. A send may be received twice or never, and in any order.
+/// The log of a simulated run. A send may be received never, and twice or in any order where the shape says so.
 pub fn run(shape: &Shape, random: &mut Random) -> Description {
     let n = shape.workers;
     let roles: Vec<u32> = (0..n).map(|_| random.below(4) as u32).collect();
@@ -153,7 +211,7 @@ pub fn run(shape: &Shape, random: &mut Random) -> Description {
             break;
         }
         let mut w = state.random.below(n);
-        while state.workers[w].events.len() == 65_535 {
+        while state.workers[w].events.len() == MAX_EVENTS as usize {
             w = (w + 1) % n;
         }
         state.event(w, shape);
@@ -191,22 +249,60 @@ pub fn make_alike(description: &mut Description, random: &mut Random) {
     }
 }
 
-/// A valid log of at most these numbers of workers and events, in any layout.
+/// A valid log of at most these numbers of workers and events, in any layout. Where no send is received twice, it is of either form.
 pub fn any_log(random: &mut Random, workers: usize, events: usize) -> Vec<u8> {
+    let description = any_run(random, workers, events);
+    let form = match description.repeats() {
+        0 => random.pick(&[1, 2, 2]),
+        _ => 1,
+    };
+    let mut log = any_layout(&description, form, random);
+    if random.chance(200) {
+        share_any_bytes(&mut log, random);
+    }
+    log
+}
+
+/// A run of at most these numbers of workers and events.
+fn any_run(random: &mut Random, workers: usize, events: usize) -> Description {
     let shape = Shape::any(random, workers, events);
     let mut description = run(&shape, random);
     if random.chance(400) {
         make_alike(&mut description, random);
     }
-    let mut log = if random.chance(300) {
-        description.pack()
+    description
+}
+
+fn any_layout(description: &Description, form: u16, random: &mut Random) -> Vec<u8> {
+    if random.chance(300) {
+        description.pack_as(form)
     } else {
-        description.lay_out(random)
-    };
-    if random.chance(200) {
-        share_any_bytes(&mut log, random);
+        description.lay_out(form, random)
     }
-    log
+}
+
+/// A log of form 2 that only 24 refuses, of at most these numbers of workers and events, in any layout.
+pub fn any_repeating_log(random: &mut Random, workers: usize, events: usize) -> Vec<u8> {
+    loop {
+        let mut description = any_run(random, workers, events);
+        for _ in 0..random.within(1, 3) {
+            repeat_any(&mut description, random);
+        }
+        if description.repeats() > 0 {
+            return any_layout(&description, 2, random);
+        }
+    }
+}
+
+/// Makes a receive of any worker name the send that one before it names, where there are two.
+pub fn repeat_any(description: &mut Description, random: &mut Random) {
+    let worker = random.below(description.workers.len());
+    let receives = description.receives(worker);
+    if receives.len() > 1 {
+        let to = random.within(1, receives.len() - 1);
+        let from = random.below(to);
+        description.repeat(worker, receives[from], receives[to]);
+    }
 }
 
 /// Points an empty section at any bytes of the log that happen to be a record that may stand there: bytes of other records, of a
@@ -406,6 +502,82 @@ pub fn chain(workers: usize, chain: usize, events: usize) -> Description {
     Description {
         workers: run.workers,
     }
+}
+
+/// A log of this number of events in which all sends come first. Then each worker receives sends to it, no send twice, in any order.
+pub fn shuffled(workers: usize, events: usize, random: &mut Random) -> Description {
+    let mut description = Description {
+        workers: vec![Worker::default(); workers],
+    };
+    let sends = events.div_ceil(2);
+    let mut sent = Vec::new();
+    for stamp in 1..=sends as u32 {
+        let from = random.below(workers);
+        let to = (from + random.within(1, workers - 1)) % workers;
+        let sender = &mut description.workers[from].events;
+        sender.push(Event::send(to, stamp));
+        sent.push((to, from, sender.len() as u32));
+    }
+    random.shuffle(&mut sent);
+    let stamps = sends as u32 + 1..=events as u32;
+    for (stamp, (to, from, send)) in stamps.zip(sent) {
+        let receive = Event::receive(random.pick(&[2, 3]), from, send, stamp);
+        description.workers[to].events.push(receive);
+    }
+    description
+}
+
+/// Adds two sends of worker 0 to worker 1, which receives them in the other order, behind all other events.
+pub fn add_falling(description: &mut Description) {
+    let [sender, receiver, ..] = &mut description.workers[..] else {
+        panic!("a log of two workers or more");
+    };
+    let last = u32::MAX;
+    sender.events.push(Event::send(1, last - 3));
+    sender.events.push(Event::send(1, last - 2));
+    let send = sender.events.len() as u32;
+    receiver.events.push(Event::receive(2, 0, send, last - 1));
+    receiver.events.push(Event::receive(2, 0, send - 1, last));
+}
+
+/// A log of form 2 in which one worker has receives of these sends, worker and event each, and all others have one section: the most
+/// sends, all to it.
+pub fn shared_sends(workers: usize, receiver: usize, sends: &[(usize, u32)]) -> Vec<u8> {
+    let mut log = Description {
+        workers: vec![Worker::default(); workers],
+    }
+    .pack_as(2);
+    let shared = log.len() as u32;
+    log.extend((1..=MAX_EVENTS).flat_map(|stamp| Event::send(receiver, stamp).bytes()));
+    let own = log.len() as u32;
+    for (stamp, &(from, send)) in (MAX_EVENTS + 1..).zip(sends) {
+        let kind = if stamp % 3 == 0 { 3 } else { 2 };
+        log.extend(Event::receive(kind, from, send, stamp).bytes());
+    }
+    for entry in (0..workers).map(|w| 8 + 20 * w) {
+        put(&mut log, entry, MAX_EVENTS);
+        put(&mut log, entry + 4, shared);
+    }
+    put(&mut log, 8 + 20 * receiver, sends.len() as u32);
+    put(&mut log, 12 + 20 * receiver, own);
+    let length = log.len() as u32;
+    put(&mut log, 4, length);
+    log
+}
+
+/// Sends for [`shared_sends`], `many` different ones of these senders: first those given, and then others.
+pub fn different_sends(
+    senders: &[usize],
+    first: &[(usize, u32)],
+    many: usize,
+) -> Vec<(usize, u32)> {
+    let all = senders.len() * MAX_EVENTS as usize;
+    // A prime that does not divide it, so no number comes twice.
+    let numbers = (1..all).map(|k| k * 1_000_003 % all);
+    let others = numbers
+        .map(|at| (senders[at % senders.len()], (at / senders.len()) as u32 + 1))
+        .filter(|other| !first.contains(other));
+    first.iter().copied().chain(others).take(many).collect()
 }
 
 /// A log of the most workers and close to 4 MiB.

@@ -1,10 +1,11 @@
-//! The exported functions against the reference on seeded inputs: valid logs, damaged logs, bytes that are no log.
+//! The exported functions against the reference on seeded inputs of both forms: valid logs, logs with repeats, damaged logs, bytes that
+//! are no log.
 
 use evidence::compare::{every_call, is_refused_by, Seen};
 use evidence::damage::{damaged, garbage};
-use evidence::description::MAX_WORKERS;
+use evidence::description::{set_form, MAX_WORKERS};
 use evidence::random::Random;
-use evidence::runs::any_log;
+use evidence::runs::{any_log, any_repeating_log};
 
 /// The numbers that calls with a worker, an event and enough words or fewer can return.
 const ARGUMENTS: [u32; 4] = [0, 12, 13, 14];
@@ -14,12 +15,15 @@ const STATES: [u32; 4] = [16, 21, 22, 23];
 #[test]
 fn small_valid_logs() {
     let mut seen = Seen::default();
+    let mut forms = [0; 3];
     for round in 0..12_000 {
         let mut random = Random::round(100, round);
         let log = any_log(&mut random, 6, 60);
+        forms[usize::from(log[0])] += 1;
         is_refused_by(&random, &log, 0);
         every_call(&mut random, &log, &mut seen);
     }
+    assert!(forms[1] > 3_000 && forms[2] > 3_000, "{forms:?}");
     seen.has(ARGUMENTS);
     seen.has(STATES);
     seen.has([15]);
@@ -42,6 +46,27 @@ fn larger_valid_logs() {
     seen.has_replayed([15]);
 }
 
+/// The numbers of a log as the header has its form: in form 2 only 24, in form 1 none.
+#[test]
+fn logs_of_form_2_with_repeats() {
+    for (seed, rounds, workers, events) in [(500, 6_000, 6, 60), (600, 400, MAX_WORKERS, 2_500)] {
+        let mut seen = Seen::default();
+        for round in 0..rounds {
+            let mut random = Random::round(seed, round);
+            let mut log = any_repeating_log(&mut random, workers, events);
+            is_refused_by(&random, &log, 24);
+            every_call(&mut random, &log, &mut seen);
+            set_form(&mut log, 1);
+            is_refused_by(&random, &log, 0);
+            every_call(&mut random, &log, &mut seen);
+        }
+        seen.has(ARGUMENTS);
+        seen.has(STATES);
+        seen.has([24]);
+        seen.has_replayed(ARGUMENTS);
+    }
+}
+
 #[test]
 fn damaged_logs() {
     let mut seen = Seen::default();
@@ -56,6 +81,7 @@ fn damaged_logs() {
         }
     }
     seen.has(0..=11);
+    seen.has([24]);
     seen.has_replayed(ARGUMENTS);
     seen.has_replayed([15]);
 }

@@ -1,9 +1,12 @@
-//! The reference against the definitions of document 01, taken literally, on small logs.
+//! The reference against the definitions of document 01 and of form 2, taken literally, on small logs.
 
-use evidence::description::{Description, Worker};
+use evidence::compare::{event, length, worker, State};
+use evidence::damage::damaged;
+use evidence::description::{set_form, Description, Worker};
 use evidence::failure::{words, Call, Difference, Meaning};
 use evidence::random::Random;
-use evidence::runs::{run, Shape};
+use evidence::runs::{any_log, repeat_any, run, Shape};
+use evidence::sides::{Arguments, EXPORTED, NAMES, REFERENCE};
 
 /// A log's content with the events that happened before each event, as bits.
 struct Model {
@@ -217,7 +220,11 @@ fn every_event_of_small_logs() {
     for round in 0..1_500 {
         let mut random = Random::round(1, round);
         let description = small(&mut random);
-        let log = description.pack();
+        let form = match description.repeats() {
+            0 => random.pick(&[1, 2]),
+            _ => 1,
+        };
+        let log = description.pack_as(form);
         let model = Model::new(description);
         call(&random, &log, "reference::log_refusal", &[])
             .returned(reference::log_refusal(&log), 0);
@@ -446,4 +453,127 @@ fn tests(model: &Model, log: &[u8], random: &mut Random) {
         test.returned(number, 0);
         test.same([differ(ANSWER, &yes, &[u32::from(model.covers(t))])]);
     }
+}
+
+/// 24 by its text: two different events that are receives and name the same event of the same worker.
+fn has_repeat(log: &reference::Log) -> bool {
+    let workers = log.workers.iter();
+    let events: Vec<_> = workers.flat_map(|w| w.events(0, w.count())).collect();
+    let is_repeat = |a: usize, b: usize| {
+        let (a, b) = (events[a], events[b]);
+        [a, b]
+            .iter()
+            .all(|event| event.kind == 2 || event.kind == 3)
+            && (a.peer, a.send) == (b.peer, b.send)
+    };
+    (0..events.len()).any(|a| (0..a).any(|b| is_repeat(a, b)))
+}
+
+/// The log with this form.
+fn in_form(log: &[u8], form: u16) -> Vec<u8> {
+    let mut log = log.to_vec();
+    set_form(&mut log, form);
+    log
+}
+
+/// Compares the refusals of a log in form 2 and in one that is neither 1 nor 2; gives that of form 2. By the text it is that of form 1;
+/// where form 1 is accepted, it is 24 if there is a repeat.
+fn refusals(random: &Random, log: &[u8]) -> u32 {
+    let (one, two) = (in_form(log, 1), in_form(log, 2));
+    let neither = in_form(log, random.clone().pick(&[0, 3, 0x101, 0x102, 0x200]));
+    let (expected, other) = match reference::accept(&one) {
+        Err(1) => (1, 1),
+        Err(number) => (number, 2),
+        Ok(accepted) if has_repeat(&accepted) => (24, 2),
+        Ok(_) => (0, 2),
+    };
+    for calls in [EXPORTED, REFERENCE] {
+        let name = "log_refusal";
+        call(random, &two, name, &[]).returned((calls.log_refusal)(&two), expected);
+        call(random, &neither, name, &[]).returned((calls.log_refusal)(&neither), other);
+    }
+    expected
+}
+
+#[test]
+fn two_receives_of_one_send() {
+    let (mut once, mut twice) = (0, 0);
+    for round in 0..10_000 {
+        let mut random = Random::round(2, round);
+        let mut description = small(&mut random);
+        for _ in 0..random.below(3) {
+            repeat_any(&mut description, &mut random);
+        }
+        let log = description.lay_out(1, &mut random);
+        call(&random, &log, "reference::log_refusal", &[])
+            .returned(reference::log_refusal(&log), 0);
+        match refusals(&random, &log) {
+            24 => twice += 1,
+            _ => once += 1,
+        }
+    }
+    assert!(once > 1_000 && twice > 1_000, "{once}, {twice}");
+}
+
+#[test]
+fn two_receives_of_one_send_in_damaged_logs() {
+    let mut seen = [0; 25];
+    for round in 0..20_000 {
+        let mut random = Random::round(3, round);
+        let log = small(&mut random).lay_out(1, &mut random);
+        let log = damaged(&log, &mut random);
+        if log.len() >= 2 {
+            seen[refusals(&random, &log) as usize] += 1;
+        }
+    }
+    for number in (0..=11).chain([24]).filter(|&number| number != 2) {
+        assert!(seen[number] > 10, "few refusals {number}: {seen:?}");
+    }
+}
+
+/// Arguments of any value for a log, most often such that they are not refused.
+fn any_arguments(random: &mut Random, log: &[u8]) -> Arguments {
+    let accepted = reference::accept(log).expect("an accepted log");
+    let n = accepted.size();
+    let worker = worker(random, &accepted);
+    let event = event(random, &accepted, worker);
+    let any = State::any(random, &accepted);
+    let planned = State::planned(log, worker, event).unwrap_or(any.clone());
+    let mut state = if random.chance(500) { planned } else { any };
+    if random.chance(100) {
+        state = state.edited(random);
+    }
+    let list: Vec<u32> = (0..random.below(30))
+        .map(|_| random.below(n + 1) as u32)
+        .collect();
+    let mut arguments = Arguments::new((worker, event), state, list, n);
+    arguments.identifier = random.below(12) as u32;
+    for lent in &mut arguments.lent {
+        *lent = length(random, *lent);
+    }
+    arguments
+}
+
+/// Cuts, plans and steps have the same definitions over both forms.
+#[test]
+fn both_forms_of_a_log() {
+    let mut accepted = [0; NAMES.len()];
+    for round in 0..4_000 {
+        let mut random = Random::round(4, round);
+        let log = any_log(&mut random, 6, 60);
+        let (one, two) = (in_form(&log, 1), in_form(&log, 2));
+        if reference::log_refusal(&two) == 24 {
+            continue;
+        }
+        let arguments = any_arguments(&mut random, &one);
+        for calls in [EXPORTED, REFERENCE] {
+            for (at, name) in NAMES.into_iter().enumerate() {
+                let [found, expected] = [&two, &one].map(|log| arguments.answer(name, &calls, log));
+                accepted[at] += u32::from(expected[0] == 0);
+                let words = words(|index| format!("number or word {index}"), &found, &expected);
+                call(&random, &two, name, &[]).same([words]);
+            }
+        }
+    }
+    assert!(accepted.iter().all(|&times| times > 500), "{accepted:?}");
 }

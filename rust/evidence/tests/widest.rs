@@ -1,18 +1,23 @@
-//! The exported functions against the reference at the limits of document 01: workers, events, checkpoints, bytes.
+//! The exported functions against the reference at the limits of document 01: workers, events, checkpoints, bytes; and repeats there,
+//! which form 2 does not allow.
 
 use evidence::compare::{
     every_call, is_refused_by, lower_cut, plan, restore_and_replay, step, steps, upper_line,
     vector, Lengths, Replayed, Room, Seen, State,
 };
 use evidence::description::{
-    get, put, worker_count, Description, Event, Worker, MAX_LOG, MAX_WORKERS, SCRATCH_WORDS,
+    get, put, worker_count, Description, Event, Worker, MAX_EVENTS, MAX_LOG, MAX_WORKERS,
+    SCRATCH_WORDS,
 };
 use evidence::failure::Call;
 use evidence::random::Random;
-use evidence::runs::{deep, hub, ring, run, widest, Shape};
+use evidence::runs::{
+    chain, deep, different_sends, hub, ring, run, shared_sends, shuffled, two_level_hub, widest,
+    Shape,
+};
 
-/// The most bytes that the steps of a list together test in a call of `restore_and_replay`: each tests the whole log.
-const MOST_BYTES: usize = 100_000_000;
+/// The most events that the steps of a list together test in a call of `restore_and_replay`: each tests the whole log.
+const MOST_EVENTS: usize = 8_000_000;
 
 /// The last of the most workers.
 const LAST: usize = MAX_WORKERS - 1;
@@ -27,6 +32,12 @@ fn often(log: &[u8], seed: u64, times: u64) {
     for round in 0..times {
         every_call(&mut Random::round(seed, round), log, &mut Seen::default());
     }
+}
+
+/// The events of all workers, those that share bytes too.
+fn events(log: &[u8]) -> usize {
+    let counts = (0..worker_count(log)).map(|w| get(log, 8 + 20 * w) as usize);
+    counts.sum()
 }
 
 /// Compares the calls at events of a worker, and the replays of the plans there. The events are the rounds.
@@ -77,7 +88,7 @@ fn at_event(random: &mut Random, log: &[u8], worker: u32, event: u32, number: u3
         let found = steps(random, log, plan, positions, &list, list.len());
         returned(random, "steps", found);
         let length = list.len();
-        list.truncate(MOST_BYTES / log.len());
+        list.truncate(MOST_EVENTS / events(log));
         is_whole = list.len() == length;
         list.insert(list.len() / 2, n as u32);
     }
@@ -263,10 +274,10 @@ fn one_message_that_goes_round() {
 #[test]
 fn shortest_logs() {
     for length in 0..=28 {
-        for n in 0..=2 {
+        for (form, n) in [1, 2].into_iter().flat_map(|f| [(f, 0), (f, 1), (f, 2)]) {
             let mut log = vec![0; length];
             if length >= 8 {
-                log[0] = 1;
+                log[0] = form;
                 log[2] = n;
                 put(&mut log, 4, length as u32);
             }
@@ -282,6 +293,239 @@ fn shortest_logs() {
             };
             is_refused(&log, number);
             often(&log, 14, 3);
+        }
+    }
+}
+
+/// Compares the refusal of a log in both forms, given how many receives repeat another one.
+fn is_refused_in_form_2(description: &Description, repeats: usize) {
+    assert_eq!(description.repeats(), repeats);
+    is_refused(&description.pack(), 0);
+    is_refused(&description.pack_as(2), if repeats > 0 { 24 } else { 0 });
+}
+
+#[test]
+fn logs_of_form_2_whose_receives_rise() {
+    for description in [
+        run(&Shape::in_order(MAX_WORKERS, 320_000), &mut Random::new(20)),
+        deep(MAX_WORKERS, 16),
+        hub(MAX_WORKERS, 65_535),
+        two_level_hub(MAX_WORKERS, 7, 240_000),
+        chain(MAX_WORKERS, 16, 300_000),
+        ring(MAX_WORKERS, 300_000),
+    ] {
+        is_refused_in_form_2(&description, 0);
+        let log = description.pack_as(2);
+        often(&log, 21, 1);
+        at_events(&log, 0, &[1, get(&log, 8)]);
+    }
+}
+
+/// The first and the last of 65,535 events receive one send. Between them are receives that rise, receives that fall, or sends.
+#[test]
+fn two_receives_as_far_apart_as_can_be() {
+    let sends: Vec<Event> = (1..=65_535).map(|stamp| Event::send(1, stamp)).collect();
+    let rising = |k| Event::receive(2, 0, k, 65_535 + k);
+    let falling = |k| Event::receive(3, 0, 65_536 - k, 65_535 + k);
+    let alone = |k| match k {
+        1 => Event::receive(3, 0, 40_000, 65_536),
+        65_535 => Event::receive(2, 0, 20_000, u32::MAX),
+        _ => Event::send(0, 65_535 + k),
+    };
+    let between: [&dyn Fn(u32) -> Event; 3] = [&rising, &falling, &alone];
+    for (seed, event) in (22..).zip(between) {
+        let worker = |events| Worker {
+            events,
+            ..Worker::default()
+        };
+        let mut description = Description {
+            workers: vec![
+                worker(sends.clone()),
+                worker((1..=65_535).map(event).collect()),
+            ],
+        };
+        is_refused_in_form_2(&description, 0);
+        often(&description.pack_as(2), seed, 1);
+        // The last event, and events before it.
+        for to in [65_534, 65_533, 40_000, 1] {
+            let before = description.workers[1].events[to];
+            description.repeat(1, 0, to);
+            is_refused_in_form_2(&description, 1);
+            often(&description.pack_as(2), seed, 1);
+            description.workers[1].events[to] = before;
+        }
+    }
+}
+
+/// Places of two receives among those of a worker: first and second, first and last, the last two, and two in the middle.
+fn pairs(receives: &[usize]) -> [(usize, usize); 4] {
+    let [.., before, last] = receives else {
+        panic!("too few receives")
+    };
+    let middle = receives.len() / 2;
+    [
+        (receives[0], receives[1]),
+        (receives[0], *last),
+        (*before, *last),
+        (receives[middle / 2], receives[middle]),
+    ]
+}
+
+/// Compares the refusals of a log of the most workers, in form 2 too, without a repeat and with one in the first worker, one in the
+/// middle and the last.
+fn with_one_repeat(description: &Description) {
+    is_refused_in_form_2(description, 0);
+    for worker in [0, 31, LAST] {
+        for (from, to) in pairs(&description.receives(worker)) {
+            let mut description = description.clone();
+            description.repeat(worker, from, to);
+            is_refused_in_form_2(&description, 1);
+        }
+    }
+}
+
+#[test]
+fn long_logs_with_receives_in_any_order() {
+    let mut random = Random::new(23);
+    for mut description in [
+        run(&Shape::any_order(MAX_WORKERS, 319_999), &mut random),
+        shuffled(MAX_WORKERS, 319_999, &mut random),
+    ] {
+        with_one_repeat(&description);
+        let receives = description.receives(LAST);
+        let last = &mut description.workers[LAST].events;
+        last.push(Event::send(0, u32::MAX));
+        let event = last.len() as u32;
+        is_refused_in_form_2(&description, 0);
+        let mut log = description.pack_as(2);
+        log.resize(MAX_LOG, 0xff);
+        put(&mut log, 4, MAX_LOG as u32);
+        is_refused(&log, 0);
+        often(&log, 24, 2);
+        at_events(&log, LAST as u32, &[1, event]);
+        // The log's last event receives what the worker's first receive does.
+        description.repeat(LAST, receives[0], event as usize - 1);
+        is_refused_in_form_2(&description, 1);
+        let log = description.pack_as(2);
+        often(&log, 25, 2);
+        at_event(&mut random, &log, LAST as u32, event, 24);
+        at_event(&mut random, &log, MAX_WORKERS as u32, 0, 24);
+    }
+}
+
+/// Receives that are not in the order of the sends, in logs of as many events as a power of two, one fewer and one more.
+#[test]
+fn receives_in_any_order_around_powers_of_two() {
+    for power in 4..18 {
+        for events in [(1 << power) - 1, 1 << power, (1 << power) + 1] {
+            for workers in [2, 3, 9, MAX_WORKERS] {
+                let mut random = Random::round(26, (events * 100 + workers) as u64);
+                if events / workers < 60_000 {
+                    around(&run(&Shape::any_order(workers, events), &mut random));
+                    around(&shuffled(workers, events, &mut random));
+                }
+            }
+        }
+    }
+}
+
+/// Compares the refusals of a log without a repeat and with one in the first and the last worker that have two receives.
+fn around(description: &Description) {
+    is_refused_in_form_2(description, 0);
+    let mut workers = (0..description.workers.len()).filter(|&w| description.receives(w).len() > 1);
+    for worker in [workers.next(), workers.next_back()].into_iter().flatten() {
+        let receives = description.receives(worker);
+        for (from, to) in [pairs(&receives)[1], pairs(&receives)[2]] {
+            let mut description = description.clone();
+            description.repeat(worker, from, to);
+            is_refused_in_form_2(&description, 1);
+        }
+    }
+}
+
+/// Compares the refusals of logs in which one worker receives from all others, whose 65,535 sends share bytes: without a repeat, but
+/// with two sends of the first or the last sender in the other order; and with one repeat of each of these sends, given as the place of
+/// the sender among the senders and its event. The last log of each kind is returned.
+fn senders_that_share_bytes(
+    workers: usize,
+    receiver: usize,
+    receives: usize,
+    repeated: &[(usize, u32)],
+) -> (Vec<u8>, Vec<u8>) {
+    let senders: Vec<usize> = (0..workers).filter(|&w| w != receiver).collect();
+    let mut logs = (Vec::new(), Vec::new());
+    for sender in [senders[0], senders[senders.len() - 1]] {
+        let falling = [(sender, 65_535), (sender, 65_534)];
+        let named = different_sends(&senders, &falling, receives);
+        logs.0 = shared_sends(workers, receiver, &named);
+        is_refused(&logs.0, 0);
+    }
+    for &(sender, send) in repeated {
+        let repeated = (senders[sender], send);
+        let mut named = different_sends(&senders, &[repeated], receives);
+        named[receives - 1] = repeated;
+        logs.1 = shared_sends(workers, receiver, &named);
+        is_refused(&logs.1, 24);
+    }
+    logs
+}
+
+#[test]
+fn more_than_four_million_events_that_share_bytes() {
+    let repeated = [0, 31, 62].map(|sender| [1, 30_000, 65_535].map(|send| (sender, send)));
+    for receiver in [0, LAST] {
+        let (accepted, repeating) =
+            senders_that_share_bytes(MAX_WORKERS, receiver, 65_535, repeated.as_flattened());
+        assert_eq!(events(&accepted), 64 * 65_535);
+        let at = |seed, log: &[u8], number| {
+            at_event(&mut Random::new(seed), log, receiver as u32, 65_535, number);
+        };
+        at(27, &accepted, 0);
+        at(28, &repeating, 24);
+    }
+}
+
+/// The sends of these senders with the numbers 1, 1 + `step`, 1 + 2 × `step` and so on, the last ones first.
+fn sends_by_steps(senders: &[usize], step: u32) -> Vec<(usize, u32)> {
+    let numbers = (0..=(MAX_EVENTS - 1) / step).rev().map(|k| 1 + k * step);
+    let sends = numbers.flat_map(|send| senders.iter().map(move |&sender| (sender, send)));
+    sends.take(MAX_EVENTS as usize).collect()
+}
+
+/// Receives of sends that are as far from each other as any multiple of 8 or of 64, of one sender and of many: none is another's repeat.
+#[test]
+fn sends_at_like_places_of_senders_that_share_bytes() {
+    for (every, step) in [(1, 64), (8, 8), (62, 2), (63, 1)] {
+        for receiver in [0, LAST] {
+            let others = (0..MAX_WORKERS).filter(|&w| w != receiver);
+            let senders: Vec<usize> = others.step_by(every).collect();
+            let mut sends = sends_by_steps(&senders, step);
+            is_refused(&shared_sends(MAX_WORKERS, receiver, &sends), 0);
+            let last = sends.len() - 1;
+            for from in [0, last / 2, last - 1] {
+                let before = sends[last];
+                sends[last] = sends[from];
+                is_refused(&shared_sends(MAX_WORKERS, receiver, &sends), 24);
+                sends[last] = before;
+            }
+        }
+    }
+}
+
+/// Logs of k × 65,536 events, 524,288 among them, and of a few more or fewer: k senders, whose sends share bytes, and one receiver.
+#[test]
+fn events_that_share_bytes_around_powers_of_two() {
+    for senders in [1, 2, 4, 8, 16, 32] {
+        let mut many = vec![senders.max(3) - 1, senders.max(2), senders + 1];
+        if senders == 8 {
+            many.extend((5..20).chain([64, 65, 72, 73]));
+        }
+        for receives in many {
+            for receiver in [0, senders] {
+                let last = senders - 1;
+                let repeated = [(0, 65_535), (last, 1), (last, 65_535)];
+                senders_that_share_bytes(senders + 1, receiver, receives, &repeated);
+            }
         }
     }
 }

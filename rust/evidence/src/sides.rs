@@ -1,0 +1,189 @@
+//! The calls of both sides, the exported functions and the reference, and what they give for the same arguments.
+
+use crate::compare::State;
+use crate::description::SCRATCH_WORDS;
+use restore_planner::calls;
+
+/// A call that writes a line of n words for an event.
+pub type Line = fn(&[u8], u32, u32, &mut [u32]) -> u32;
+/// A call that writes words and totals for an event, and is lent scratch.
+pub type WithTotals = fn(&[u8], u32, u32, &mut [u32], &mut [u32], &mut [u64]) -> u32;
+/// The cut test.
+pub type CutTest = fn(&[u8], &[u32], &mut [u32]) -> u32;
+/// The covering test.
+pub type Covers = fn(&[u8], u32, &mut [u32]) -> u32;
+/// One step.
+pub type Step = fn(&[u8], &[u32], &mut [u32], u32) -> u32;
+/// A list of steps.
+pub type Steps = fn(&[u8], &[u32], &mut [u32], &[u32], &mut [u32]) -> u32;
+/// A plan with a list of steps.
+pub type RestoreAndReplay =
+    fn(&[u8], u32, u32, &[u32], &mut [u32], &mut [u32], &mut [u32], &mut [u32], &mut [u64]) -> u32;
+
+/// The calls of one side.
+#[derive(Clone, Copy, Debug)]
+#[allow(missing_docs)]
+pub struct Calls {
+    pub log_refusal: fn(&[u8]) -> u32,
+    pub vector: Line,
+    pub upper_line: Line,
+    pub lower_cut: WithTotals,
+    pub plan: WithTotals,
+    pub cut_test: CutTest,
+    pub covers: Covers,
+    pub step: Step,
+    pub steps: Steps,
+    pub restore_and_replay: RestoreAndReplay,
+}
+
+/// The exported functions.
+pub const EXPORTED: Calls = Calls {
+    log_refusal: calls::log_refusal,
+    vector: calls::vector,
+    upper_line: calls::upper_line,
+    lower_cut: calls::lower_cut,
+    plan: calls::plan,
+    cut_test: calls::cut_test,
+    covers: calls::covers,
+    step: calls::step,
+    steps: calls::steps,
+    restore_and_replay: calls::restore_and_replay,
+};
+
+/// The reference.
+pub const REFERENCE: Calls = Calls {
+    log_refusal: reference::log_refusal,
+    vector: reference::vector,
+    upper_line: reference::upper_line,
+    lower_cut: reference::lower_cut,
+    plan: reference::plan,
+    cut_test: reference::cut_test,
+    covers: reference::covers,
+    step: reference::step,
+    steps: reference::steps,
+    restore_and_replay: reference::restore_and_replay,
+};
+
+/// The names of the calls.
+pub const NAMES: [&str; 10] = [
+    "log_refusal",
+    "vector",
+    "upper_line",
+    "lower_cut",
+    "plan",
+    "cut_test",
+    "covers",
+    "step",
+    "steps",
+    "restore_and_replay",
+];
+
+/// What the calls on a log are given.
+#[derive(Clone, Debug)]
+pub struct Arguments {
+    /// The breakpoint: worker and event. The worker makes the step.
+    pub at: (u32, u32),
+    /// The identifier that is asked for.
+    pub identifier: u32,
+    /// The plan and the positions of steps, with the cut that is tested.
+    pub state: State,
+    /// The workers of a list of steps.
+    pub list: Vec<u32>,
+    /// How many words are lent for a line, for a plan, as totals and for the steps of the list.
+    pub lent: [usize; 4],
+}
+
+/// The number of a call, then the words and the totals that it was lent.
+fn given(
+    words: usize,
+    totals: usize,
+    call: impl FnOnce(&mut [u32], &mut [u64]) -> u32,
+) -> Vec<u64> {
+    let (mut words, mut totals) = (vec![7; words], vec![7; totals]);
+    let number = call(&mut words, &mut totals);
+    let words = words.into_iter().map(u64::from);
+    let number = [u64::from(number)].into_iter();
+    number.chain(words).chain(totals).collect()
+}
+
+impl Arguments {
+    /// Arguments for a log of n workers, with as many words as are needed.
+    pub fn new(at: (u32, u32), state: State, list: Vec<u32>, n: usize) -> Arguments {
+        Arguments {
+            at,
+            identifier: 0,
+            state,
+            lent: [n, 3 * n, 4, list.len() * (n + 1)],
+            list,
+        }
+    }
+
+    /// What a call gives: its number, then the words and the totals that it was lent, but for scratch.
+    pub fn answer(&self, name: &str, calls: &Calls, log: &[u8]) -> Vec<u64> {
+        let [line, plan, ..] = self.lent;
+        match name {
+            "log_refusal" => given(0, 0, |_, _| (calls.log_refusal)(log)),
+            "vector" => self.line(calls.vector, log),
+            "upper_line" => self.line(calls.upper_line, log),
+            "lower_cut" => self.with_totals(calls.lower_cut, log, line),
+            "plan" => self.with_totals(calls.plan, log, plan),
+            "cut_test" => {
+                let cut: Vec<u32> = self.state.plan.chunks(3).map(|w| w[0]).collect();
+                given(1, 0, |to, _| (calls.cut_test)(log, &cut, to))
+            }
+            "covers" => given(1, 0, |to, _| (calls.covers)(log, self.identifier, to)),
+            "step" => self.steps(0, |to, _| {
+                (calls.step)(log, &self.state.plan, to, self.at.0)
+            }),
+            "steps" => self.steps(self.list.len(), |to, answers| {
+                (calls.steps)(log, &self.state.plan, to, &self.list, answers)
+            }),
+            "restore_and_replay" => self.replay(calls.restore_and_replay, log),
+            other => panic!("there is no call {other}"),
+        }
+    }
+
+    fn line(&self, call: Line, log: &[u8]) -> Vec<u64> {
+        let (worker, event) = self.at;
+        given(self.lent[0], 0, |to, _| call(log, worker, event, to))
+    }
+
+    fn with_totals(&self, call: WithTotals, log: &[u8], words: usize) -> Vec<u64> {
+        let (worker, event) = self.at;
+        let mut scratch = vec![0; SCRATCH_WORDS];
+        given(words, self.lent[2], |to, totals| {
+            call(log, worker, event, to, &mut scratch, totals)
+        })
+    }
+
+    /// What a call on the positions gives, with this many words for answers.
+    fn steps(&self, answers: usize, call: impl FnOnce(&mut [u32], &mut [u32]) -> u32) -> Vec<u64> {
+        let positions = &self.state.positions;
+        given(positions.len() + answers, 0, |to, _| {
+            let (to, answers) = to.split_at_mut(positions.len());
+            to.copy_from_slice(positions);
+            call(to, answers)
+        })
+    }
+
+    fn replay(&self, call: RestoreAndReplay, log: &[u8]) -> Vec<u64> {
+        let ((worker, event), list) = (self.at, &self.list);
+        let [line, plan, totals, steps] = self.lent;
+        let mut scratch = vec![0; SCRATCH_WORDS];
+        given(plan + line + steps, totals, |to, totals| {
+            let (words, rest) = to.split_at_mut(plan);
+            let (after, steps) = rest.split_at_mut(line);
+            call(
+                log,
+                worker,
+                event,
+                list,
+                words,
+                &mut scratch,
+                after,
+                steps,
+                totals,
+            )
+        })
+    }
+}
