@@ -5,11 +5,18 @@
 //! The three are run in turn, and each time is the least of many. Where logs are short, some twenty of them are gone through in turn,
 //! since the processor learns the branches of one that is read again and again. The lent words are not cleared between runs; a call of
 //! the exported function and one of the reference have their own. Every call tests the whole log, so each ratio has that in it.
+//!
+//! At the end the test of the log and the plan are timed on form 2 beside form 1 of the same logs, in the same place in memory;
+//! `cargo run --release --bin bench forms` times nothing else.
 
 use evidence::compare::State;
-use evidence::description::{Description, MAX_WORKERS, PLAN_WORDS, SCRATCH_WORDS};
+use evidence::description::{
+    set_form, Description, MAX_EVENTS, MAX_WORKERS, PLAN_WORDS, SCRATCH_WORDS,
+};
 use evidence::random::Random;
-use evidence::runs::{chain, deep, hub, ring, run, two_level_hub, Shape};
+use evidence::runs::{
+    chain, deep, different_sends, hub, ring, run, shared_sends, two_level_hub, Shape,
+};
 use restore_planner::calls;
 use std::hint::black_box;
 use std::time::{Duration, Instant};
@@ -33,8 +40,7 @@ struct Case {
 }
 
 impl Case {
-    fn new(description: &Description, worker: usize) -> Case {
-        let log = description.pack();
+    fn new(log: Vec<u8>, worker: usize) -> Case {
         let accepted = reference::accept(&log).expect("an accepted log");
         let event = accepted.workers[worker].count();
         let identifier = accepted.workers[worker]
@@ -48,7 +54,7 @@ impl Case {
         let (mut words, mut scratch, mut totals) = ([0; MAX_WORKERS], [0; SCRATCH_WORDS], [0; 2]);
         reference::lower_cut(&log, worker, event, &mut words, &mut scratch, &mut totals);
         Case {
-            events: description.events(),
+            events: accepted.workers.iter().map(|w| w.count() as usize).sum(),
             worker,
             event,
             visits: totals[0],
@@ -71,7 +77,21 @@ struct Input {
 fn one(name: &str, description: &Description, worker: usize) -> Input {
     Input {
         name: name.to_string(),
-        cases: vec![Case::new(description, worker)],
+        cases: vec![Case::new(description.pack(), worker)],
+    }
+}
+
+/// Runs of one shape, as many as have 100,000 events together.
+fn runs(name: &str, shape: &Shape) -> Input {
+    let seeds = 0..(100_000 / shape.events as u64).max(1);
+    Input {
+        name: name.to_string(),
+        cases: seeds
+            .map(|seed| {
+                let mut random = Random::round(shape.events as u64, seed);
+                Case::new(run(shape, &mut random).pack(), 0)
+            })
+            .collect(),
     }
 }
 
@@ -82,14 +102,11 @@ fn families() -> Vec<Vec<Input>> {
         let family = [5_000, 20_000, 80_000, 320_000]
             .into_iter()
             .filter(|events| events / workers <= 60_000)
-            .map(|events| Input {
-                name: format!("run {workers} workers"),
-                cases: (0..(100_000 / events as u64).max(1))
-                    .map(|seed| {
-                        let mut random = Random::round(events as u64, seed);
-                        Case::new(&run(&Shape::long(workers, events), &mut random), 0)
-                    })
-                    .collect(),
+            .map(|events| {
+                runs(
+                    &format!("run {workers} workers"),
+                    &Shape::long(workers, events),
+                )
             });
         families.push(family.collect());
     }
@@ -173,6 +190,13 @@ fn time(input: &Input, times: u32, words: &mut Words, call: Call) -> Duration {
     start.elapsed() / (times * input.cases.len() as u32)
 }
 
+/// How many times through all cases take about half a millisecond, once at least.
+fn repetitions(input: &Input, words: &mut Words, call: Call) -> u32 {
+    let once = time(input, 1, words, call).max(Duration::from_nanos(100));
+    let round = once.as_nanos() * input.cases.len() as u128;
+    (Duration::from_micros(500).as_nanos() / round).clamp(1, 1_000) as u32
+}
+
 /// The least times of an exported call, of the reference and of a plain pass, run in turn for 300 ms and 12 times at least.
 struct Times {
     exported: Duration,
@@ -189,9 +213,7 @@ fn measure(input: &Input, exported: Call, reference: Call) -> Times {
             "the numbers returned"
         );
     }
-    let once = time(input, 1, &mut a, exported).max(Duration::from_nanos(100));
-    let round = once.as_nanos() * input.cases.len() as u128;
-    let times = (Duration::from_micros(500).as_nanos() / round).clamp(1, 1_000) as u32;
+    let times = repetitions(input, &mut a, exported);
     let mut best = Times {
         exported: Duration::MAX,
         reference: Duration::MAX,
@@ -326,21 +348,23 @@ fn machine() -> String {
     format!("{name}, {number} processors")
 }
 
+/// The mean of a number of an input's cases.
+fn mean(input: &Input, of: impl Fn(&Case) -> usize) -> f64 {
+    input.cases.iter().map(of).sum::<usize>() as f64 / input.cases.len() as f64
+}
+
 /// Prints an input's name and sizes; gives its mean bytes and events.
 fn print_input(input: &Input) -> (f64, f64) {
     let many = input.cases.len();
-    let mean = |of: &dyn Fn(&Case) -> usize| {
-        input.cases.iter().map(of).sum::<usize>() as f64 / many as f64
-    };
-    let (bytes, events) = (mean(&|c| c.log.len()), mean(&|c| c.events));
+    let (bytes, events) = (mean(input, |c| c.log.len()), mean(input, |c| c.events));
     println!();
     println!(
         "{}: {events:.0} events, {bytes:.0} bytes, {many} logs in turn, breakpoint {}/{}, {:.0} visits, list of {:.0} steps",
         input.name,
         input.cases[0].worker,
         input.cases[0].event,
-        mean(&|c| c.visits as usize),
-        mean(&|c| c.list.len()),
+        mean(input, |c| c.visits as usize),
+        mean(input, |c| c.list.len()),
     );
     println!(
         "  {:<12} {:>9} {:>9} {:>7} {:>8} {:>8} {:>8} {:>13} {:>14}",
@@ -359,6 +383,14 @@ fn print_input(input: &Input) -> (f64, f64) {
 
 fn main() {
     println!("machine: {}", machine());
+    if std::env::args().nth(1).as_deref() != Some("forms") {
+        print_calls();
+    }
+    print_forms();
+}
+
+/// Prints each call on each input, and what the rows say together.
+fn print_calls() {
     println!("exported, reference, pass: microseconds, the least of many runs; pass is the sum of the log's bytes");
     println!("exp/pass: nanoseconds an event over those of the plain pass");
     println!("growth: time over that of the same call on the family's next smaller log, divided by the growth in bytes (1.00: linear)");
@@ -431,4 +463,151 @@ fn print_guard(accepting: &[(String, f64, f64)]) {
             println!("  {name}, {events:.0} events: {nanos:.2} / {other:.2} = {ratio:.2}");
         }
     }
+}
+
+/// A family of runs without repeats.
+fn grow(
+    order: &str,
+    shape: fn(usize, usize) -> Shape,
+    workers: usize,
+    sizes: &[usize],
+) -> Vec<Input> {
+    let name = format!("receives {order}, {workers} workers");
+    let sizes = sizes.iter();
+    sizes
+        .map(|&events| runs(&name, &shape(workers, events)))
+        .collect()
+}
+
+/// Families of logs without repeats. Runs that grow: receives in the order of each sender's sends, and in any order. Then one log of
+/// the most events, in which 63 workers share the bytes of their sends and one receives some of each.
+fn families_without_repeats() -> [Vec<Input>; 5] {
+    let sizes = [20_000, 80_000, 320_000];
+    let senders: Vec<usize> = (1..MAX_WORKERS).collect();
+    let sends = different_sends(&senders, &[], MAX_EVENTS as usize);
+    let sharing = Input {
+        name: format!("receives in any order, {MAX_WORKERS} workers, sends share bytes"),
+        cases: vec![Case::new(shared_sends(MAX_WORKERS, 0, &sends), 0)],
+    };
+    [
+        grow("in order", Shape::in_order, 4, &[5_000]),
+        grow("in order", Shape::in_order, MAX_WORKERS, &sizes),
+        grow("in any order", Shape::any_order, 4, &[5_000]),
+        grow("in any order", Shape::any_order, MAX_WORKERS, &sizes),
+        vec![sharing],
+    ]
+}
+
+/// The least times of a call on form 1 and on form 2.
+type OfForms = [Duration; 2];
+
+/// The least times of an exported call and of the reference, run in turn on both forms of the same logs for 600 ms and 12 times at least.
+fn measure_forms(input: &mut Input, exported: Call, reference: Call) -> [OfForms; 2] {
+    let mut words = [Words::new(input), Words::new(input)];
+    let times = repetitions(input, &mut words[0], exported);
+    let mut best = [[Duration::MAX; 2]; 2];
+    let start = Instant::now();
+    let mut rounds = 0;
+    while rounds < 12 || start.elapsed() < Duration::from_millis(600) {
+        for form in [1, 2] {
+            for case in &mut input.cases {
+                set_form(&mut case.log, form);
+            }
+            for (side, call) in [exported, reference].into_iter().enumerate() {
+                let taken = time(input, times, &mut words[side], call);
+                let least = &mut best[side][usize::from(form) - 1];
+                *least = taken.min(*least);
+            }
+        }
+        rounds += 1;
+    }
+    for (side, call) in [exported, reference].into_iter().enumerate() {
+        let accepts = |case| call(case, &mut words[side]) == 0;
+        assert!(
+            input.cases.iter().all(accepts),
+            "a log of form 2 is refused"
+        );
+    }
+    black_box(words.map(|to| (to.words, to.scratch, to.totals)));
+    best
+}
+
+/// Prints the test of the log and the plan on form 2 beside form 1 of the same logs.
+fn print_forms() {
+    println!();
+    println!("form 2 beside form 1 of the same logs: nanoseconds an event, the least of many runs");
+    println!("2/1: time on form 2 over that on form 1; exp/ref and growth: on form 2");
+    for family in families_without_repeats() {
+        let mut smaller: Vec<[OfForms; 2]> = Vec::new();
+        let mut bytes_before = 0.0;
+        for mut input in family {
+            let (bytes, events) = print_input_of_forms(&input);
+            let mut rows = Vec::new();
+            for &(call, exported, reference) in
+                CALLS.iter().filter(|(call, ..)| OF_FORMS.contains(call))
+            {
+                let times = measure_forms(&mut input, exported, reference);
+                let before = smaller.get(rows.len());
+                print_row_of_forms(call, &times, before, events, bytes / bytes_before);
+                rows.push(times);
+            }
+            smaller = rows;
+            bytes_before = bytes;
+        }
+    }
+}
+
+/// The calls that are timed on both forms.
+const OF_FORMS: [&str; 2] = ["log_refusal", "plan"];
+
+/// Prints an input's name and sizes; gives its mean bytes and events.
+fn print_input_of_forms(input: &Input) -> (f64, f64) {
+    let many = input.cases.len();
+    let (bytes, events) = (mean(input, |c| c.log.len()), mean(input, |c| c.events));
+    println!();
+    println!(
+        "{}: {events:.0} events, {bytes:.0} bytes, {many} logs in turn",
+        input.name
+    );
+    println!(
+        "  {:<12} {:>6} {:>6} {:>6} {:>6} {:>6} {:>6} {:>8} {:>14} {:>14}",
+        "call",
+        "exp 1",
+        "exp 2",
+        "2/1",
+        "ref 1",
+        "ref 2",
+        "2/1",
+        "exp/ref",
+        "growth of exp",
+        "growth of ref"
+    );
+    (bytes, events)
+}
+
+/// Prints the times of a call on both forms; the growth is that from `before`, divided by the growth in bytes.
+fn print_row_of_forms(
+    call: &str,
+    times: &[OfForms; 2],
+    before: Option<&[OfForms; 2]>,
+    events: f64,
+    bytes: f64,
+) {
+    let [exported, reference] = times.map(|side| side.map(|time| micros(time) * 1e3 / events));
+    let growths = [0, 1].map(|side| match before {
+        Some(before) => growth(times[side][1], before[side][1], bytes),
+        None => "-".to_string(),
+    });
+    println!(
+        "  {call:<12} {:>6.2} {:>6.2} {:>6.2} {:>6.2} {:>6.2} {:>6.2} {:>8.2} {:>14} {:>14}",
+        exported[0],
+        exported[1],
+        exported[1] / exported[0],
+        reference[0],
+        reference[1],
+        reference[1] / reference[0],
+        exported[1] / reference[1],
+        growths[0],
+        growths[1],
+    );
 }
