@@ -18,7 +18,7 @@ use Rattle.log.specs.Layout.{workersOf, logOf}
 use Rattle.log.specs.Model.{Workers, workerCount, eventCount, eventOf, checkpointCount, checkpointOf, isSend, isUnlogged, isLogged, isReceive}
 use Rattle.lent.proofs.Lent.{peel, or-else-zero}
 use Rattle.log.proofs.Readable.{readable}
-use Rattle.log.proofs.Read.{size-read, count-field, checkpoints-field, role-field, worker-within, worker-within′, event-none, event-past, checkpoint-initial, checkpoint-past}
+use Rattle.log.proofs.Read.{size-read, workers-few, count-field, checkpoints-field, role-field, worker-within, worker-within′, event-none, event-past, checkpoint-initial, checkpoint-past}
 use Rattle.accept.specs.Records.{kindFault, peerFault, sendFault, fieldFault, stampFault, sendOf, sourceFault, orderFault, eventFault}
 use Rattle.accept.specs.Records.{checkpointFault, recordFault, recordCount, workerFault, someRecord}
 use Rattle.repeats.specs.Repeats.{repeatFault}
@@ -163,7 +163,7 @@ module _ (s : List ℕ) (layout : layoutRefusal s ≡ 0) (records : recordsRefus
   formed =
       record {
         some = rw (size-read s) (readable s layout .some);
-        few = rw (size-read s) (readable s layout .few);
+        few = workers-few s layout;
         events = λ w. count-field s layout w .1;
         recorded = λ w. checkpoints-field s layout w .1;
         roles = λ w. role-field s layout w .1;

@@ -10,7 +10,7 @@ use borrow.Author.Tests.{le-leb, lt-leb}
 use lib.ListN.{length, drop, length-take, length-drop, List·getD-eq-default}
 use Rattle.ranges.proofs.Tabulate.{length-tabulate, getD-tabulate}
 use Rattle.log.specs.Model.{Workers, Worker, noEvent, noWorker, initial, workerCount, worker, roleOf, eventCount, eventOf, checkpointCount, checkpointOf}
-use Rattle.log.specs.Limits.{maxEvents, maxCheckpoints, maxRole}
+use Rattle.log.specs.Limits.{maxWorkers, maxEvents, maxCheckpoints, maxRole}
 use Rattle.log.specs.Header.{layoutRefusal}
 use Rattle.log.proofs.Readable.{readable}
 use Rattle.log.specs.Layout.{sizeField, headerOf, field, entryOrZero, eventCountField, eventOffsetField, checkpointCountField, checkpointOffsetField, roleField}
@@ -117,6 +117,9 @@ module _ (s : List ℕ) (ok : layoutRefusal s ≡ 0) where
       (λ l. let e = inside l in let b = bound l in (rw (lt-leb (sizeField s) w l) e, omega arith))
       (λ l. let e = past (rw (size-read s) l) in (rw (le-leb (sizeField s) w l) e, omega arith))
       (lt-or-le w (sizeField s))
+
+  pub workers-few : workerCount (workersOf s) ≤ maxWorkers
+  workers-few = rw (size-read s) (readable s ok .few)
 
   pub count-field : (w : ℕ) → (eventCount (workersOf s) w ≡ entryOrZero s w eventCountField) × (eventCount (workersOf s) w ≤ maxEvents)
   count-field w = or-zero _ w eventCountField maxEvents (count-read s w) (count-past (workersOf s) w) (λ l. readable s ok .entry w l .events)

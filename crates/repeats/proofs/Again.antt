@@ -19,8 +19,7 @@ use Rattle.log.specs.Model.{Workers, workerCount, eventCount, eventOf, isReceiv
 use Rattle.log.specs.Header.{layoutRefusal}
 use Rattle.log.specs.Layout.{workersOf}
 use Rattle.log.specs.Limits.{maxWorkers}
-use Rattle.log.proofs.Readable.{readable}
-use Rattle.log.proofs.Read.{size-read, worker-within}
+use Rattle.log.proofs.Read.{workers-few, worker-within}
 use Rattle.repeats.specs.Repeats.{sameSend, repeats, repeatedBy, isRepeated, workerRepeats, someRepeat}
 use Rattle.repeats.specs.Inner.Again.{Messages, sameAs, again, workerAgain, someAgain}
 
@@ -61,9 +60,16 @@ module _ (log : Workers) where
   unfolding again sameAs
   again-by w l e = let found = any-some (sameAs log w l) l e in (found .0, found .1, same-parts _ _ (found .2))
 
-  some-from : (w l : ℕ) → l < eventCount log w → again log w l ≡ true → someAgain log ≡ true
+  pub some-from : (w l : ℕ) → l < eventCount log w → again log w l ≡ true → someAgain log ≡ true
   unfolding someAgain workerAgain
   some-from w l h e = any-found (workerAgain log) (workerCount log) w (worker-within log w l h) (any-found (again log w) (eventCount log w) l h e)
+
+  pub some-by : someAgain log ≡ true → (w : ℕ) × (l : ℕ) × (l < eventCount log w) × (again log w l ≡ true)
+  unfolding someAgain workerAgain
+  some-by e =
+      let worker = any-some (workerAgain log) (workerCount log) e in
+      let event = any-some (again log (worker .0)) (eventCount log (worker .0)) (worker .2) in
+      (worker .0, event .0, event .1, event .2)
 
   -- two different events that receive one send, and such a pair from a test that holds
   pub record Pair : Type 0 where
@@ -131,18 +137,16 @@ module _ (log : Workers) where
             (lt-or-le k l)
 
     again-pair : someAgain log ≡ true → Pair
-    unfolding someAgain workerAgain
     again-pair e =
-        let worker = any-some (workerAgain log) (workerCount log) e in
-        let event = any-some (again log (worker .0)) (eventCount log (worker .0)) (worker .2) in
-        let before = again-by (worker .0) (event .0) (event .2) in
+        let found = some-by e in
+        let before = again-by (found .0) (found .1) (found .3) in
         let earlier = before .1 in
-        let within = event .1 in
+        let within = found .2 in
         record {
-          w = worker .0;
+          w = found .0;
           k = before .0;
-          v = worker .0;
-          l = event .0;
+          v = found .0;
+          l = found .1;
           first = omega arith;
           second = within;
           other = λ p q. let no : ⊥ = omega arith in no;
@@ -197,5 +201,5 @@ pub peer-few : (s : List ℕ) → layoutRefusal s ≡ 0 → Messages (workersOf 
     → eventOf (workersOf s) w (k + 1) .peer < maxWorkers
 peer-few s ok messages w k h =
     let peer = messages .peers w k h in
-    let few : workerCount (workersOf s) ≤ maxWorkers = rw (size-read s) (readable s ok .few) in
+    let few = workers-few s ok in
     omega arith

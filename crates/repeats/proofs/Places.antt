@@ -17,11 +17,10 @@ use Rattle.log.specs.Model.{Workers, workerCount, eventCount, eventOf, isReceiv
 use Rattle.log.specs.Header.{layoutRefusal}
 use Rattle.log.specs.Layout.{workersOf}
 use Rattle.log.specs.Limits.{maxWorkers, maxEvents}
-use Rattle.log.proofs.Readable.{readable}
-use Rattle.log.proofs.Read.{size-read, count-field, worker-within}
-use Rattle.repeats.specs.Inner.Again.{Messages, again, workerAgain, someAgain}
+use Rattle.log.proofs.Read.{workers-few, count-field, worker-within}
+use Rattle.repeats.specs.Inner.Again.{Messages, again, someAgain}
 use Rattle.repeats.specs.Inner.Table.{firstPlace, allEvents, placeOf, againWithin, workerAgainWithin, someAgainWithin}
-use Rattle.repeats.proofs.Again.{Same, again-by}
+use Rattle.repeats.proofs.Again.{Same, again-by, some-from, some-by}
 
 -- what an event receives, as a number
 pub received-one : (e : Event) → isReceive e ≡ true → received e ≡ 1
@@ -164,10 +163,7 @@ module _ (log : Workers) where
 
   -- what is found in a range is found
   within-some : (low high : ℕ) → someAgainWithin log low high ≡ true → someAgain log ≡ true
-  unfolding someAgain workerAgain
-  within-some low high e =
-      let f = some-found low high e in
-      any-found (workerAgain log) (workerCount log) (f .w) (worker-within log (f .w) (f .l) (f .within)) (any-found (again log (f .w)) (eventCount log (f .w)) (f .l) (f .within) (f .repeated))
+  within-some low high e = let f = some-found low high e in some-from log (f .w) (f .l) (f .within) (f .repeated)
 
   pub within-unfound : (low high : ℕ) → someAgain log ≡ false → someAgainWithin log low high ≡ false
   within-unfound low high none = never-true _ (λ e. false≢true (sym none ∙ within-some low high e))
@@ -197,19 +193,17 @@ module _ (log : Workers) where
 
     -- the range of all numbers
     pub within-all : someAgainWithin log 0 (allEvents log) ≡ someAgain log
-    unfolding someAgain workerAgain
     within-all = both-ways _ _ (within-some 0 (allEvents log)) back
       where
         back : someAgain log ≡ true → someAgainWithin log 0 (allEvents log) ≡ true
         back e =
-            let worker = any-some (workerAgain log) (workerCount log) e in
-            let event = any-some (again log (worker .0)) (eventCount log (worker .0)) (worker .2) in
-            let below = place-below messages (worker .0) (event .0) (event .1) (again-by log (worker .0) (event .0) (event .2) .2 .second) in
-            found-some 0 (allEvents log) (record { w = worker .0; l = event .0; within = event .1; repeated = event .2; least = omega arith; less = below })
+            let found = some-by log e in
+            let below = place-below messages (found .0) (found .1) (found .2) (again-by log (found .0) (found .1) (found .3) .2 .second) in
+            found-some 0 (allEvents log) (record { w = found .0; l = found .1; within = found .2; repeated = found .3; least = omega arith; less = below })
 
 -- ---- the numbers fit
 pub places-few : (s : List ℕ) → layoutRefusal s ≡ 0 → (v : ℕ) → v ≤ workerCount (workersOf s) → firstPlace (workersOf s) v ≤ maxWorkers * maxEvents
 places-few s ok v h =
     let bound = first-bound (workersOf s) v maxEvents (λ u. count-field s ok u .1) in
-    let few : workerCount (workersOf s) ≤ maxWorkers = rw (size-read s) (readable s ok .few) in
+    let few = workers-few s ok in
     omega arith

@@ -1,7 +1,7 @@
 -- `log::worker_count` meets its contract. Assumes nothing.
 use mathlib.Core.Path.{sym, _∙_}
 use Rattle.log.proofs.Readable.{readable}
-use Rattle.log.proofs.Read.{size-read}
+use Rattle.log.proofs.Read.{size-read, workers-few}
 use borrow.Author.Needs.{needs}
 use Rattle.log.proofs.worker_count.Statement.{statement}
 use Rattle.log.proofs.worker_count.Tie as tie
@@ -10,7 +10,7 @@ size-field-requires : tie.Need-size-field-requires
 size-field-requires c κs = readable _ (c .before .pre) .long
 
 returns : tie.Need-returns
-returns c = (c .size-field .ensures ∙ sym (size-read _), rw (← c .size-field .ensures) at (readable _ (c .before .before .pre) .few))
+returns c = (c .size-field .ensures ∙ sym (size-read _), rw (c .size-field .ensures, ← size-read _) (workers-few _ (c .before .before .pre)))
 
 pub worker-count-spec : {M : Type 1} → statement M
 worker-count-spec = tie.close (tie.spec size-field-requires (λ c. search needs) returns)

@@ -1,6 +1,6 @@
 -- `repeats::repeats_from` meets its contract. Assumes nothing.
 use mathlib.Core.Path.{sym, _∙_}
-use Prim.Native.Nat.{ℕ, _+_, _-_, _*_, _<_, _≤_}
+use Prim.Native.Nat.{ℕ, _+_, _-_, _*_, _<_}
 use native.Mathlib.Omega.{arith}
 use borrow.Author.Needs.{needs}
 use borrow.Author.Tests.{not-true}
@@ -8,10 +8,8 @@ use borrow.Fn.Kinds.{In, Out}
 use borrow.Fn.PlainCycle.{Measures, is, falls, and}
 use Rattle.ranges.proofs.Bools.{said-false, said-true}
 use Rattle.log.specs.Layout.{workersOf}
-use Rattle.log.specs.Limits.{maxWorkers}
 use Rattle.log.specs.Model.{workerCount}
-use Rattle.log.proofs.Readable.{readable}
-use Rattle.log.proofs.Read.{size-read}
+use Rattle.log.proofs.Read.{workers-few}
 use Rattle.repeats.specs.Inner.Table.{wordBits, manyWords, allEvents}
 use Rattle.repeats.proofs.Places.{within-none, within-later, within-first, within-unfound, places-few}
 use Rattle.repeats.proofs.repeats_from.Reads as repeats-from
@@ -60,9 +58,8 @@ module _ (t : ℕ) where
 
   number-events-requires : At repeats-from-lts.Need-number-events-requires
   number-events-requires c κs =
-      let entry = c .before .before .before .before in
-      let few : workerCount (workersOf (entry .args .log .now)) ≤ maxWorkers = rw (size-read (entry .args .log .now)) (readable _ (entry .pre .1 .0) .few) in
-      (entry .pre .1 .0, few)
+      let layout = c .before .before .before .before .pre .1 .0 in
+      (layout, workers-few _ layout)
 
   -- no number is left
   returns-2 : At repeats-from-lts.Need-returns-2
