@@ -2,14 +2,16 @@
 use mathlib.Core.Path.{_≡_, refl, sym, _∙_, ap}
 use mathlib.Core.Bool.{Bool, true, false, cond}
 use mathlib.Core.Logic.{_≢_}
-use mathlib.Core.List.{List, [], _∷_, _++_, append-nil, append-assoc}
+use mathlib.Core.List.{List, [], _∷_, _++_, append-nil}
 use Prim.Native.Nat.{ℕ, suc, _+_, _<_, _≤_}
 use native.Mathlib.Omega.{arith}
 use borrow.Author.Tests.{lt-ltb, le-ltb, ltb-false, eqb-true, eqb-false, eq-eqb, ne-eqb}
 use lib.Dec.{eqb, ltb}
-use lib.ListN.{length, take, drop, getD, set, length-append, drop-of-length-le}
-use lib.Seq.{take-at, drop-cons, set-at}
+use lib.ListN.{length, take, drop, set, length-set, drop-of-length-le}
+use lib.Seq.{take-at}
 use Rattle.lent.specs.Lent.{orElse, wordsRefusal, onto, unlessRefused}
+use Rattle.lent.specs.Inner.Overwrite.{overwrite}
+use Rattle.lent.proofs.Overwrite.{overwrite-none, overwrite-one, overwrite-more}
 
 -- ---- the first number that is not 0
 -- a test that gives 0: it failed, and what follows gives 0
@@ -76,20 +78,18 @@ unfoldable pub storeEach : ℕ → List ℕ → List ℕ → List ℕ
 storeEach k [] lent = lent
 storeEach k (a ∷ new) lent = storeEach (suc k) new (set lent k a)
 
-store-after : (front new lent : List ℕ) → length front + length new ≤ length lent → storeEach (length front) new (onto front lent) ≡ onto (front ++ new) lent
-unfolding storeEach onto
-store-after front [] lent h = rw append-nil
-store-after front (a ∷ new) lent h =
-    let k = length front in
-    let long : length (front ++ (a ∷ [])) ≡ suc k = simp length-append (omega arith) in
-    let one : set (front ++ drop k lent) k a ≡ (front ++ (a ∷ [])) ++ drop (suc k) lent =
-    rw (drop-cons lent k 0 (omega arith)) (set-at front (getD lent k 0) (drop (suc k) lent) a k refl ∙ sym (append-assoc front (a ∷ []) (drop (suc k) lent))) in
-    let rest = store-after (front ++ (a ∷ [])) new lent (omega arith) in
-    rw (one) ((rw (long) at rest) ∙ rw (append-assoc front (a ∷ []) new))
+-- they are the new ones from there on
+pub stored-at : (k : ℕ) (new lent : List ℕ) → k + length new ≤ length lent → storeEach k new lent ≡ overwrite k new lent
+unfolding storeEach
+stored-at k [] lent h = sym (overwrite-none k lent)
+stored-at k (a ∷ new) lent h =
+    let long : length (set lent k a) ≡ length lent = length-set lent k a in
+    let next : suc k ≡ k + length (a ∷ []) = omega arith in
+    stored-at (suc k) new (set lent k a) (omega arith) ∙ rw (overwrite-one k lent a (omega arith), next) (overwrite-more k lent (a ∷ []) new (omega arith))
 
 pub stored-words : (new lent : List ℕ) → length new ≤ length lent → storeEach 0 new lent ≡ onto new lent
-unfolding onto
-stored-words new lent h = store-after [] new lent (omega arith)
+unfolding overwrite
+stored-words new lent h = stored-at 0 new lent (omega arith)
 
 -- words of a value that a call found, where it is not refused
 pub put-found : {A : Type 0} (words : A → List ℕ) (a b : A) (lent left : List ℕ) → a ≡ b → left ≡ onto (words a) lent → left ≡ unlessRefused 0 (words b) lent

@@ -1,8 +1,10 @@
-// Words that a caller lends: how many there are, and what is put into them.
+// Words and bytes that a caller lends: how many there are, and what is put into them.
 
 ghost use mathlib.Core.Path.{_≡_};
+ghost use Prim.Native.Nat.{_+_, _≤_};
 ghost use lib.ListN.{length, replicate};
 ghost use Rattle.lent.specs.Lent.{orElse, wordsRefusal};
+ghost use Rattle.lent.specs.Inner.Overwrite.{overwrite};
 
 // The first of two refusals that is not 0.
 pub fn or_else(first: u32, second: u32) -> u32
@@ -44,5 +46,17 @@ pub fn copy(from: &[u32], to: &mut [u32])
     while w < to.len() {
         to[w] = from[w];
         w += 1;
+    }
+}
+
+// Copies bytes to those from place `at` on.
+pub fn copy_bytes(from: &[u8], to: &mut [u8], at: usize)
+    requires { ⌜ at + length (now from) ≤ length (now to) ⌝ }
+    ensures bytes { λ _. ⌜ now (to .exit) ≡ overwrite at (now (from .entry)) (now (to .entry)) ⌝ }
+{
+    let mut k: usize = 0;
+    while k < from.len() {
+        to[at + k] = from[k];
+        k += 1;
     }
 }

@@ -2,7 +2,7 @@
 use mathlib.Core.Path.{_≡_, refl, sym, ap}
 use mathlib.Core.Logic.{⊎-elim, _≢_}
 use Prim.Native.Nat.{ℕ, zero, suc, _+_, _*_, _<_, _≤_}
-use native.Mathlib.Nat.{not-suc-le-zero, eq-or-lt-of-le, le-of-suc-le-suc, suc-mul}
+use native.Mathlib.Nat.{not-suc-le-zero, eq-or-lt-of-le, le-of-suc-le-suc, suc-mul, mul-zero, mul-suc}
 use native.Mathlib.Numerals.{add-one}
 use native.Mathlib.Omega.{arith}
 use Rattle.ranges.specs.Fold.{sumBelow}
@@ -82,3 +82,9 @@ pub sum-add : (f g h : ℕ → ℕ) (n : ℕ) → ((k : ℕ) → k < n → f k +
 unfolding sumBelow
 sum-add f g h zero all = refl
 sum-add f g h (suc n) all = let below = sum-add f g h n (λ k l. all k (omega arith)) in let here = all n (omega arith) in omega arith
+
+-- the same number n times
+pub sum-constant : (c n : ℕ) → sumBelow (λ (k : ℕ). c) n ≡ c * n
+unfolding sumBelow
+sum-constant c zero = sym (mul-zero c)
+sum-constant c (suc n) = let e = mul-suc c n in let below = sum-constant c n in omega arith

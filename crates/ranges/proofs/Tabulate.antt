@@ -34,6 +34,12 @@ pub tabulate-list : {A : Type 0} (f : ℕ → A) (n : ℕ) (d : A) (l : List A) 
 tabulate-list f n d l e same =
     ext-getD d l (tabulate f n) (e ∙ sym (length-tabulate f n)) (λ k h. same k (rw e at h) ∙ sym (getD-tabulate f n k d (rw e at h)))
 
+-- two functions that agree below n
+pub tabulate-same : {A : Type 0} (f g : ℕ → A) (n : ℕ) → ((k : ℕ) → k < n → f k ≡ g k) → tabulate f n ≡ tabulate g n
+unfolding tabulate
+tabulate-same f g zero same = refl
+tabulate-same f g (suc n) same = rw (tabulate-same f g n (λ k h. same k (omega arith)), same n (omega arith))
+
 -- a list of one element over and over gives it at every place, with it as the default
 pub getD-replicate-all : {A : Type 0} (n k : ℕ) (a : A) → getD (replicate n a) k a ≡ a
 getD-replicate-all n k a =

@@ -35,6 +35,11 @@ unfoldable pub tabulate {ℓ} : {A : Type ℓ} → (ℕ → A) → ℕ → List 
 tabulate f zero = []
 tabulate f (suc n) = tabulate f n ++ (f n ∷ [])
 
+-- the lists f 0, .., f (n - 1), one after the other
+unfoldable pub joinBelow : (ℕ → List ℕ) → ℕ → List ℕ
+joinBelow f zero = []
+joinBelow f (suc n) = joinBelow f n ++ f n
+
 -- a state after act 0, .., act (n - 1), in this order
 unfoldable pub sweep {ℓ} : {A : Type ℓ} → (ℕ → A → A) → ℕ → A → A
 sweep act zero s = s
