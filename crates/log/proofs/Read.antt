@@ -12,7 +12,7 @@ use Rattle.ranges.proofs.Tabulate.{length-tabulate, getD-tabulate}
 use Rattle.log.specs.Model.{Workers, Worker, noEvent, noWorker, initial, workerCount, worker, roleOf, eventCount, eventOf, checkpointCount, checkpointOf}
 use Rattle.log.specs.Limits.{maxWorkers, maxEvents, maxCheckpoints, maxRole}
 use Rattle.log.specs.Header.{layoutRefusal}
-use Rattle.log.proofs.Readable.{readable}
+use Rattle.log.proofs.Readable.{Entry, readable}
 use Rattle.log.specs.Layout.{sizeField, headerOf, field, entryOrZero, eventCountField, eventOffsetField, checkpointCountField, checkpointOffsetField, roleField}
 use Rattle.log.specs.Layout.{eventSize, checkpointSize, section, eventStart, eventSection, checkpointSection, eventRecord, checkpointRecord, workerOf, workersOf}
 
@@ -129,6 +129,9 @@ module _ (s : List ℕ) (ok : layoutRefusal s ≡ 0) where
 
   pub role-field : (w : ℕ) → (roleOf (workersOf s) w ≡ entryOrZero s w roleField) × (roleOf (workersOf s) w ≤ maxRole)
   role-field w = or-zero _ w roleField maxRole (role-read s w) (role-past (workersOf s) w) (λ l. readable s ok .entry w l .role)
+
+  pub entry-of : (w : ℕ) → w < workerCount (workersOf s) → Entry s w
+  entry-of w h = readable s ok .entry w (rw (size-read s) at h)
 
   pub entry-within : (w : ℕ) → w < workerCount (workersOf s) → headerOf (w + 1) ≤ length s
   entry-within w h = let r = readable s ok in let l : w < sizeField s = rw (size-read s) at h in omega arith

@@ -6,7 +6,7 @@ ghost use lib.ListN.{length};
 ghost use Rattle.log.specs.Forms.{receivesOnce};
 ghost use Rattle.log.specs.Limits.{maxWorkers, maxEvents, maxCheckpoints, maxRole};
 ghost use Rattle.log.specs.Model.{noEvent, workerCount, eventCount, eventOf, checkpointCount, checkpointOf, roleOf, isSend, isUnlogged, isReceive, received, column, unloggedSend};
-ghost use Rattle.log.specs.Layout.{formField, sizeField, lengthField, headerOf, field, entryOrZero, section, eventStart, eventRecord, checkpointRecord, workersOf};
+ghost use Rattle.log.specs.Layout.{formField, sizeField, lengthField, headerOf, field, entryOrZero, section, eventStart, eventSection, checkpointSection, eventRecord, checkpointRecord, workersOf};
 ghost use Rattle.log.specs.Header.{formFault, limitFault, outside, sectionFault, entryFault, someEntry, entriesRefusal, layoutRefusal};
 
 // The forms of a log. In the second one a send is received at most once.
@@ -17,7 +17,7 @@ const SECOND_FORM: u32 = 2;
 // The limits of a log.
 const MIN_LENGTH: usize = 8;
 
-const MAX_LENGTH: usize = 4194304;
+pub const MAX_LENGTH: usize = 4194304;
 
 pub const MAX_WORKERS: usize = 64;
 
@@ -58,7 +58,8 @@ pub struct Checkpoint {
     pub identifier: u32,
 }
 
-fn form_field(log: &[u8]) -> u32
+// The form, the worker count and the length that the header gives.
+pub fn form_field(log: &[u8]) -> u32
     requires { ⌜ 8 ≤ length (now log) ⌝ }
     ensures answer { λ r. ⌜ r ≡ formField (now (log .entry)) ⌝ }
 {
@@ -80,7 +81,7 @@ fn length_field(log: &[u8]) -> u32
 }
 
 // The bytes of the header of a log of n workers.
-fn header_of(n: u32) -> usize
+pub fn header_of(n: u32) -> usize
     ensures answer { λ r. ⌜ r ≡ headerOf n ⌝ }
 {
     8 + 20 * (n as usize)
@@ -353,6 +354,31 @@ pub fn checkpoint_count(log: &[u8], w: usize) -> u32
     ensures few { λ r. ⌜ r ≤ maxCheckpoints ⌝ }
 {
     entry_or_zero(log, w, CHECKPOINT_COUNT_FIELD)
+}
+
+// The bytes of the records of worker w, which is one of the log's: number j of its entry is how many they are, each of `size` bytes.
+fn records_part(log: &[u8], w: usize, j: usize, size: usize) -> &[u8]
+    requires { ⌜ (j < 4) × (headerOf (w + 1) ≤ length (now log)) × (field (now log) w (j + 1) + size * field (now log) w j ≤ length (now log)) ⌝ }
+    ensures answer { λ r. ⌜ now r ≡ section (now (log .entry)) (field (now (log .entry)) w (j + 1)) (size * field (now (log .entry)) w j) ⌝ }
+{
+    let count = entry(log, w, j);
+    let start = entry(log, w, j + 1);
+    section_part(log, start as usize, count as usize, size)
+}
+
+// The bytes of the events of worker w, and those of its checkpoints.
+pub fn events_part(log: &[u8], w: usize) -> &[u8]
+    requires { ⌜ (layoutRefusal (now log) ≡ 0) × (w < workerCount (workersOf (now log))) ⌝ }
+    ensures answer { λ r. ⌜ now r ≡ eventSection (now (log .entry)) w ⌝ }
+{
+    records_part(log, w, EVENT_COUNT_FIELD, EVENT_SIZE)
+}
+
+pub fn checkpoints_part(log: &[u8], w: usize) -> &[u8]
+    requires { ⌜ (layoutRefusal (now log) ≡ 0) × (w < workerCount (workersOf (now log))) ⌝ }
+    ensures answer { λ r. ⌜ now r ≡ checkpointSection (now (log .entry)) w ⌝ }
+{
+    records_part(log, w, CHECKPOINT_COUNT_FIELD, CHECKPOINT_SIZE)
 }
 
 fn no_event() -> Event
