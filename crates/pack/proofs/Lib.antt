@@ -1,0 +1,6 @@
+pub mod Records
+pub mod Writing
+pub mod Header
+pub mod Archive
+pub mod Allowed
+pub mod Tube

@@ -1,0 +1,106 @@
+-- The records of a log of bytes, written again, are the bytes of its sections. Assumes nothing.
+use mathlib.Core.Path.{_≡_, sym, _∙_}
+use mathlib.Core.Logic.{⊎-elim}
+use mathlib.Core.List.{List, _++_}
+use Prim.Native.Nat.{ℕ, zero, suc, _+_, _*_, _<_, _≤_}
+use native.Mathlib.Nat.{mul-zero, mul-suc}
+use native.Mathlib.Numerals.{add-one}
+use native.Mathlib.Omega.{arith}
+use lib.ListN.{length, take, drop, length-append, List·getD-eq-default, length-take}
+use lib.Seq.{take-add, drop-drop, take-all, getD-take, getD-drop}
+use Rattle.ranges.specs.Fold.{joinBelow}
+use Rattle.ranges.proofs.Order.{lt-or-le}
+use Rattle.bytes_le.specs.Little.{le, bytesOf, Bytes}
+use Rattle.bytes_le.proofs.Little.{read-bytes}
+use Rattle.log.specs.Header.{layoutRefusal}
+use Rattle.log.specs.Layout.{sizeField, field, eventCountField, checkpointCountField, eventSize, checkpointSize, section, eventSection, checkpointSection, eventRecord, checkpointRecord, workersOf}
+use Rattle.log.specs.Model.{workerCount, eventCount, checkpointCount}
+use Rattle.log.proofs.Readable.{readable}
+use Rattle.log.proofs.Read.{section-length, size-read, count-read, checkpoints-read, event-read, checkpoint-read}
+use Rattle.pack.specs.Packed.{eventBytes, checkpointBytes, eventAt, checkpointAt, sectionsOf, sectionsSize}
+
+module _ (s : List ℕ) where
+  -- two sections, one right behind the other
+  section-join : (start a b : ℕ) → section s start a ++ section s (start + a) b ≡ section s start (a + b)
+  unfolding section
+  section-join start a b = sym (take-add a b (drop start s) ∙ rw (drop-drop a start s))
+
+  pub section-bytes : Bytes s → (start bytes : ℕ) → Bytes (section s start bytes)
+  unfolding section
+  section-bytes all start bytes i =
+      ⊎-elim
+      (λ l. rw (getD-take bytes (drop start s) i 0 l, getD-drop start s i 0) (all (start + i)))
+      (λ l. let short = length-take bytes (drop start s) in rw (List·getD-eq-default (take bytes (drop start s)) 0 {n = i} (omega arith)) (omega arith))
+      (lt-or-le i bytes)
+
+  -- a number that is read and written again
+  number : Bytes s → (width at : ℕ) → at + width ≤ length s → bytesOf width (le width s at) ≡ section s at width
+  unfolding section
+  number all width at h = read-bytes width s at all h
+
+  -- records of one size, one behind the other
+  records-join : (f : ℕ → List ℕ) (size n : ℕ) → ((k : ℕ) → k < n → f k ≡ section s (size * k) size) → joinBelow f n ≡ section s 0 (size * n)
+  unfolding joinBelow section
+  records-join f size zero all = rw (mul-zero size)
+  records-join f size (suc n) all =
+      rw (records-join f size n (λ k h. all k (omega arith)), all n (omega arith), mul-suc size n) (sym (take-add (size * n) size s))
+
+  -- .. where there are no other bytes
+  records-all : (f : ℕ → List ℕ) (size n : ℕ) → length s ≡ size * n → ((k : ℕ) → k < n → f k ≡ section s (size * k) size) → joinBelow f n ≡ s
+  unfolding section
+  records-all f size n long all = records-join f size n all ∙ take-all (size * n) s (omega arith)
+
+  event-bytes : Bytes s → (k : ℕ) → eventSize * k + eventSize ≤ length s → eventBytes (eventRecord s k) ≡ section s (eventSize * k) eventSize
+  unfolding eventBytes eventRecord
+  event-bytes all k h =
+      let at = eventSize * k in
+      rw (number all 1 at (omega arith), number all 1 (at + 1) (omega arith), number all 2 (at + 2) (omega arith), number all 4 (at + 4) (omega arith), number all 4 (at + 8) (omega arith))
+      (rw (section-join at 1 1, section-join at 2 2, section-join at 4 4) (section-join at 8 4))
+
+  checkpoint-bytes : Bytes s → (k : ℕ) → checkpointSize * k + checkpointSize ≤ length s → checkpointBytes (checkpointRecord s k) ≡ section s (checkpointSize * k) checkpointSize
+  unfolding checkpointBytes checkpointRecord
+  checkpoint-bytes all k h =
+      let at = checkpointSize * k in
+      rw (number all 4 at (omega arith), number all 4 (at + 4) (omega arith)) (section-join at 4 4)
+
+-- ---- the sections of worker w of a log that passes the tests 1 to 6
+module _ (s : List ℕ) (ok : layoutRefusal s ≡ 0) (w : ℕ) (h : w < workerCount (workersOf s)) where
+  inside : w < sizeField s
+  inside = rw (size-read s) at h
+
+  pub events-long : length (eventSection s w) ≡ eventSize * eventCount (workersOf s) w
+  unfolding eventSection
+  events-long = rw (count-read s w inside) (section-length s _ _ (readable s ok .entry w inside .events-end))
+
+  pub checkpoints-long : length (checkpointSection s w) ≡ checkpointSize * checkpointCount (workersOf s) w
+  unfolding checkpointSection
+  checkpoints-long = rw (checkpoints-read s w inside) (section-length s _ _ (readable s ok .entry w inside .checkpoints-end))
+
+  module _ (all : Bytes s) where
+    events-each : (k : ℕ) → k < eventCount (workersOf s) w → eventAt (workersOf s) w k ≡ section (eventSection s w) (eventSize * k) eventSize
+    unfolding eventAt eventSection
+    events-each k l =
+        let counted : k < field s w eventCountField = rw (count-read s w inside) at l in
+        let long = events-long in
+        rw (add-one, event-read s w k inside counted) (event-bytes (eventSection s w) (section-bytes s all _ _) k (omega arith))
+
+    pub events-bytes : joinBelow (eventAt (workersOf s) w) (eventCount (workersOf s) w) ≡ eventSection s w
+    events-bytes = records-all (eventSection s w) (eventAt (workersOf s) w) eventSize (eventCount (workersOf s) w) events-long events-each
+
+    checkpoints-each : (k : ℕ) → k < checkpointCount (workersOf s) w → checkpointAt (workersOf s) w k ≡ section (checkpointSection s w) (checkpointSize * k) checkpointSize
+    unfolding checkpointAt checkpointSection
+    checkpoints-each k l =
+        let counted : k < field s w checkpointCountField = rw (checkpoints-read s w inside) at l in
+        let long = checkpoints-long in
+        rw (add-one, checkpoint-read s w k inside counted) (checkpoint-bytes (checkpointSection s w) (section-bytes s all _ _) k (omega arith))
+
+    pub checkpoints-bytes : joinBelow (checkpointAt (workersOf s) w) (checkpointCount (workersOf s) w) ≡ checkpointSection s w
+    checkpoints-bytes = records-all (checkpointSection s w) (checkpointAt (workersOf s) w) checkpointSize (checkpointCount (workersOf s) w) checkpoints-long checkpoints-each
+
+    pub sections-bytes : sectionsOf (workersOf s) w ≡ eventSection s w ++ checkpointSection s w
+    unfolding sectionsOf
+    sections-bytes = rw (events-bytes, checkpoints-bytes)
+
+    pub sections-long : length (sectionsOf (workersOf s) w) ≡ sectionsSize (workersOf s) w
+    unfolding sectionsSize
+    sections-long = rw (sections-bytes, length-append (eventSection s w) (checkpointSection s w), events-long, checkpoints-long)

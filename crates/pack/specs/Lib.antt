@@ -1,0 +1,4 @@
+pub mod Packed
+pub mod Calls
+pub mod Archive
+pub mod Inner
