@@ -3,3 +3,4 @@ pub mod Answered
 pub mod StepWords
 pub mod Restored
 pub mod SameAnswers
+pub mod Archived

@@ -1,14 +1,16 @@
--- What every call of document 01 returns and leaves, over what it is given of a log: the contracts of src/lib.rt, call by call. Scratch is
--- free after a success and is left out.
+-- What every call of document 01 returns and leaves, over what it is given of a log, and what packing does: the contracts of src/lib.rt,
+-- call by call. Scratch is free after a success and is left out.
 -- Assumes nothing.
 use mathlib.Core.Path.{_≡_}
 use mathlib.Core.List.{List, [], _∷_}
 use Prim.Native.Nat.{ℕ}
 use lib.ListN.{length, take}
 use Rattle.lent.specs.Lent.{orElse, wordsRefusal, unlessRefused}
-use Rattle.log.specs.Layout.{workersOf}
-use Rattle.log.specs.Model.{workerCount}
+use Rattle.log.specs.Layout.{workersOf, logOf}
+use Rattle.log.specs.Model.{Log, workerCount}
 use Rattle.accept.specs.Refusal.{Given, given, logRefusal}
+use Rattle.pack.specs.Packed.{packedLength, packed}
+use Rattle.pack.specs.Calls.{packRefusal}
 use Rattle.causality.specs.Cut.{vector, isConsistent}
 use Rattle.causality.specs.Refusals.{lineRefusal, searchRefusal, testRefusal}
 use Rattle.lower_cut.specs.Figure2.{lowerCut}
@@ -84,3 +86,13 @@ answersTo log =
 -- same answers from every call
 abbrev pub SameAnswers : List ℕ → List ℕ → Type 0
 SameAnswers s t = logRefusal s ≡ 0 → logRefusal t ≡ 0 → workersOf s ≡ workersOf t → answersTo (given s) ≡ answersTo (given t)
+
+-- `pack`, which keeps the form too: of the bytes and of the word for their number
+abbrev pub packCall : Given → Log → List ℕ → List ℕ → Left
+packCall given log out written =
+    leavesBoth (packRefusal given (length out) (wordsRefusal (length written) 1)) (packed log) out (packedLength (log .workers) ∷ []) written
+
+-- "the packed log gets the very plan its original got": and so it is with whatever a call gives and leaves, for all that it is asked and lent
+pub record AnsweredAlike (s t : List ℕ) : Type 0 where
+  pub calls : answersTo (given s) ≡ answersTo (given t)
+  pub packs : packCall (given s) (logOf s) ≡ packCall (given t) (logOf t)

@@ -7,12 +7,15 @@ ghost use mathlib.Core.Path.{_≡_};
 ghost use mathlib.Core.List.{[], _∷_};
 ghost use Prim.Native.Nat.{_+_, _*_, _≤_};
 ghost use lib.ListN.{length, take};
-ghost use Rattle.lent.specs.Lent.{orElse, wordsRefusal, unlessRefused, KeptIfRefused};
+ghost use Rattle.lent.specs.Lent.{at, orElse, wordsRefusal, unlessRefused, KeptIfRefused};
 ghost use Rattle.log.specs.Forms.{secondForm};
-ghost use Rattle.log.specs.Layout.{formField, workersOf};
+ghost use Rattle.log.specs.Layout.{formField, workersOf, logOf};
 ghost use Rattle.log.specs.Model.{workerCount};
 ghost use Rattle.repeats.specs.Repeats.{ReceivedOnce, ReceivedTwice};
 ghost use Rattle.accept.specs.Refusal.{logRefusal, given};
+ghost use Rattle.pack.specs.Packed.{packedLength, packed};
+ghost use Rattle.pack.specs.Calls.{packRefusal};
+ghost use Rattle.pack.specs.Archive.{Archived};
 ghost use Rattle.causality.specs.Cut.{vector, isConsistent};
 ghost use Rattle.lower_cut.specs.Figure2.{lowerCut};
 ghost use Rattle.upper_line.specs.Upper.{upperLine};
@@ -23,6 +26,7 @@ ghost use Rattle.restore.specs.Calls.{foundPlan, planTotals};
 ghost use Rattle.replay.specs.Machine.{listed, answerWord, stepWords};
 ghost use Rattle.replay.specs.Calls.{stepAnswer, stepAfter, stepsRefusal, restoreRefusal, machineRun, machineAfter};
 ghost use Rattle.replay.specs.Demand3.{Demand3};
+ghost use Rattle.planner.specs.Answers.{AnsweredAlike};
 ghost use Rattle.planner.specs.Calls.{wordOf, plannedWords, plannedRun, plannedAfter};
 
 // 0 for an accepted log, else the number that refuses it.
@@ -33,6 +37,25 @@ pub extern "C" fn log_refusal(log: &[u8]) -> u32
     ensures twice { λ r. ⌜ (r ≡ 24 → (formField (now (log .entry)) ≡ secondForm) × ReceivedTwice (workersOf (now (log .entry)))) ⌝ }
 {
     accept::accept(log)
+}
+
+// Writes the packed log of an accepted log into lent bytes, and the number of bytes written to the first word of `written`.
+#[no_mangle]
+pub extern "C" fn pack(log: &[u8], out: &mut [u8], written: &mut [u64]) -> u32
+    ensures answer { λ r. ⌜ r ≡ packRefusal (given (now (log .entry))) (length (now (out .entry))) (wordsRefusal (length (now (written .entry))) 1) ⌝ }
+    ensures out { λ r. ⌜ now (out .exit) ≡ unlessRefused r (packed (logOf (now (log .entry)))) (now (out .entry)) ⌝ }
+    ensures written { λ r. ⌜ now (written .exit) ≡ unlessRefused r (packedLength (workersOf (now (log .entry))) ∷ []) (now (written .entry)) ⌝ }
+    ensures archived { λ r. ⌜ (r ≡ 0 → Archived (now (log .entry)) (take (at (now (written .exit)) 0) (now (out .exit)))) ⌝ }
+    ensures alike { λ r. ⌜ (r ≡ 0 → AnsweredAlike (take (at (now (written .exit)) 0) (now (out .exit))) (now (log .entry))) ⌝ }
+{
+    let others = lent::words_refusal(written.len(), 1);
+    let packed = pack::pack(log, others, out);
+    let refusal = packed.refusal;
+    if refusal != 0 {
+        return refusal;
+    }
+    written[0] = packed.written;
+    0
 }
 
 // The dependency vector of an event.
