@@ -1,6 +1,6 @@
 #!/usr/bin/env python3
-"""Document 01, and form 2 of document 02, written in Python from the definitions. The expected output of the stored cases
-comes from here.
+"""Document 01, and form 2 and the packed logs of document 02, written in Python from the definitions. The expected output of
+the stored cases comes from here.
 
     scripts/reference.py --check    the values T1 to T10, and the definitions against brute force on random small logs
 
@@ -22,8 +22,9 @@ SEND, UNLOGGED, LOGGED = 1, 2, 3
 # The forms of a log. In the first a send may be received twice, in the second it is received at most once.
 REPEATS, ONCE = FORMS = (1, 2)
 
-# The largest worker count of a log.
+# The largest worker count of a log, and its most bytes.
 MAX_WORKERS = 64
+MAX_BYTES = 4194304
 
 # Units of an event by role, for kinds 1, 2 and 3.
 UNITS = {0: (2, 3, 5), 1: (2, 4, 6), 2: (3, 8, 9), 3: (2, 5, 7)}
@@ -45,7 +46,8 @@ def refuse_if(condition, number):
 class Log:
     """An accepted log. events[w] has the events of w in record order, checkpoints[w] its recorded checkpoints."""
 
-    def __init__(self, roles, events, checkpoints):
+    def __init__(self, form, roles, events, checkpoints):
+        self.form = form
         self.n = len(roles)
         self.roles = roles
         self.events = events
@@ -70,7 +72,7 @@ def is_receive(event):
 
 def read_anew(data):
     """The log of these bytes, or Refused."""
-    refuse_if(not 8 <= len(data) <= 4194304, 1)
+    refuse_if(not 8 <= len(data) <= MAX_BYTES, 1)
     form, n, length = struct.unpack_from("<HHI", data)
     refuse_if(form not in FORMS, 2)
     refuse_if(not 1 <= n <= MAX_WORKERS, 3)
@@ -97,7 +99,7 @@ def read_anew(data):
 
     roles = [entry[4] for entry in entries]
     events = [[Event(kind, peer, send, stamp) for kind, peer, spare, send, stamp in section] for section in events]
-    return Log(roles, events, checkpoints)
+    return Log(form, roles, events, checkpoints)
 
 
 def read_events(data, entry):
@@ -174,6 +176,22 @@ def read(data):
     log, number = read_once(data)
     refuse_if(number != 0, number)
     return log
+
+
+# ---- The packed log
+
+
+def packed(log):
+    """The bytes of a packed log: header, then each worker's events and after them its checkpoints, without gaps."""
+    header = 8 + 20 * log.n
+    entries = body = b""
+    for role, events, checkpoints in zip(log.roles, log.events, log.checkpoints):
+        event_offset = header + len(body)
+        body += b"".join(struct.pack("<BBHII", event.kind, event.peer, 0, event.send, event.stamp) for event in events)
+        checkpoint_offset = header + len(body)
+        body += b"".join(struct.pack("<II", *checkpoint) for checkpoint in checkpoints)
+        entries += struct.pack("<5I", len(events), event_offset, len(checkpoints), checkpoint_offset, role)
+    return struct.pack("<HHI", log.form, log.n, header + len(body)) + entries + body
 
 
 # ---- Happened before
@@ -380,6 +398,18 @@ def onto(new, words):
     return list(new) + list(words[len(new):])
 
 
+def pack_call(data, out, written):
+    """Refusal, lent bytes, written."""
+    try:
+        content = packed(read(data))
+        refuse_if(len(content) > MAX_BYTES, 26)
+        refuse_if(len(out) < len(content), 25)
+        refuse_if(len(written) < 1, 14)
+    except Refused as refused:
+        return refused.number, out, written
+    return 0, content + out[len(content):], onto([len(content)], written)
+
+
 def check_breakpoint(log, worker, event):
     refuse_if(worker >= log.n, 12)
     refuse_if(not 1 <= event <= log.count(worker), 13)
@@ -548,6 +578,7 @@ def check_tube():
     data = logs.tube()
     expect("tube log", len(data), 212)
     log = read(data)
+    expect("it is packed", packed(log), data)
     expect("T1", vector(log, 0, 2), [2, 3, 1])
     expect("T2", vector(log, 1, 3), [0, 3, 2])
     expect("T3", vector(log, 2, 2), [0, 0, 2])
@@ -583,8 +614,21 @@ def check_checkpoints():
         expect("a send before the checkpoint, " + kind, covers(log, 9), covered)
 
 
-def random_log(seed, form):
-    """A small log: receives of any earlier send, in form 1 also twice; several checkpoints, also of one index."""
+def check_limit():
+    """63 workers share the bytes of their sends, so that the packed log has as many bytes as a log may have, or 4 more."""
+    shared = [logs.Worker(0, [("send", 63, stamp) for stamp in range(1, 5547)])] * 63
+    offsets = {(w, "event offset"): 8 + 20 * 64 for w in range(63)}
+    for sends, checkpoints, more in ((20, [], 0), (19, [(0, 1), (0, 2)], 4)):
+        last = logs.Worker(0, [("send", 0, stamp) for stamp in range(1, sends + 1)], checkpoints)
+        data = logs.build(shared + [last], [("events", 0), ("events", 63), ("checkpoints", 63)], offsets)
+        expect("length", len(packed(read(data))), MAX_BYTES + more)
+        for few in (0, 1):
+            out = bytes(MAX_BYTES + more - few)
+            expect("26 before 25, 25 before 14", pack_call(data, out, []), (26 if more else 25 if few else 14, out, []))
+
+
+def random_workers(seed, form):
+    """The workers of a small log: receives of any earlier send, in form 1 also twice; several checkpoints, also of one index."""
     rng = random.Random(seed)
     n = rng.randint(1, 4)
     workers = [logs.Worker(rng.randint(0, 3)) for _ in range(n)]
@@ -606,7 +650,27 @@ def random_log(seed, form):
     for worker in workers:
         indices = sorted(rng.randint(0, len(worker.events)) for _ in range(rng.randint(0, 3)))
         worker.checkpoints = [(index, 2 * c + rng.randint(1, 2)) for c, index in enumerate(indices)]
-    return logs.build(workers, form=form)
+    return workers
+
+
+def scattered(seed, workers, form):
+    """A log of these workers with its sections in any order, and with gaps."""
+    rng = random.Random(seed)
+    places = logs.packed(workers) + [rng.randint(0, 5) for _ in range(3)]
+    rng.shuffle(places)
+    return logs.build(workers, places, form=form)
+
+
+def check_pack(data, other):
+    """A log that is built packed, and another one of the same records."""
+    expect("the same log", vars(read(other)), vars(read(data)))
+    lent = b"\x07" * (len(data) + 3)
+    for log in (data, other):
+        for more in (0, 3):
+            found = pack_call(log, lent[:len(data) + more], [7, 7])
+            expect("packed", found, (0, data + lent[:more], [len(data), 7]))
+        for out, number in ((lent, 14), (lent[:len(data) - 1], 25)):
+            expect("nothing written", pack_call(log, out, []), (number, out, []))
 
 
 def every_cut(log):
@@ -706,7 +770,9 @@ def check_random(logs_tried):
     plan."""
     repeats = tried = lowered = 0
     for seed, form in itertools.product(range(logs_tried), FORMS):
-        data = random_log(seed, form)
+        workers = random_workers(seed, form)
+        data = logs.build(workers, form=form)
+        check_pack(data, scattered(seed, workers, form))
         repeats += check_forms(data)
         log = read(data)
         for i, e in log.every_event():
@@ -721,9 +787,10 @@ def check_random(logs_tried):
 def check():
     check_tube()
     check_checkpoints()
+    check_limit()
     repeats, tried, lowered = check_random(400)
     print("T1 to T10; %d breakpoints of 400 logs of each form, %d of them with starts below the latest" % (tried, lowered))
-    print("each log in both forms, %d of them with two receives of one send" % repeats)
+    print("each log in both forms, %d of them with two receives of one send; packed, also from sections in any order" % repeats)
 
 
 if __name__ == "__main__":
