@@ -1,13 +1,13 @@
 """The calls that the program `cases` makes on a case, and how its standard input lists them.
 
-The program has an array of SIZE numbers: how many words are lent of each kind, the words that a call reads, and the words that
-it writes over. Each is FILLER at first. Standard input has for each case the number of its entries and then the entries, each a
-place and a value, in numbers of 4 bytes with the lowest first. An entry puts the value at the place. At a place below ENTRIES it
-is an action besides:
+The program has an array of SIZE numbers: how many words, or bytes, are lent of each kind, the words that a call reads, and the
+words that it writes over. Each is FILLER at first. Standard input has for each case the number of its entries and then the
+entries, each a place and a value, in numbers of 4 bytes with the lowest first. An entry puts the value at the place. At a place
+below ENTRIES it is an action besides:
 
-    0 to 9    the call of this number in NAMES, on the numbers as they are. The value is its worker, or the identifier of a
-              covering set
-    10        a new line of the output. The value is its number
+    0 to 10    the call of this number in NAMES, on the numbers as they are. The value is its worker, or the identifier of a
+               covering set
+    11         a new line of the output. The value is its number
 
 The lines of a case:
 
@@ -18,10 +18,14 @@ The lines of a case:
     13 to 16     the steps of a list, in four patterns, from the planned starts
     17 + w       three steps of worker w, while every other worker starts at its cut: what these sent before is lost
 
-The ways: in way k, 0 to 4, one word too few is lent of kind k, and just enough of the others. In ways 5 to 7 it is just enough
-of each kind, in way 8 it is 8 more than needed, and in way 9 one too few. A call that only writes words is lent fillers. The
-others are given the words of the case, all from reference.py: its lower cut, its plan, and positions at the planned starts;
+The ways: in way k, 0 to 5, one word or byte too few is lent of kind k, and just enough of the others. In ways 6 and 7 it is just
+enough of each kind, in way 8 it is 8 more than needed, and in way 9 one too few. A call that only writes words is lent fillers.
+The others are given the words of the case, all from reference.py: its lower cut, its plan, and positions at the planned starts;
 where the case is refused they are fillers.
+
+`pack` is called in ways 4 to 9 alone, and in way 7 with no byte lent. It is lent bytes for the packed log, as many as the log
+has where that is refused, but never more than ROOM. Ways 6 and 8, in which it writes, are left out where the packed log has more
+than SHOWN bytes, so that the output does not have them; ways 4 and 5 test its length.
 """
 
 import itertools
@@ -31,13 +35,13 @@ import reference
 
 MAX_WORKERS = reference.MAX_WORKERS
 
-NAMES = ("log_refusal", "vector", "upper_line", "covers", "cut_test", "step", "steps", "lower_cut", "plan", "restore")
+NAMES = ("log_refusal", "vector", "upper_line", "covers", "cut_test", "step", "steps", "lower_cut", "plan", "restore", "pack")
 LINE = len(NAMES)
 ENTRIES = LINE + 1
 
 # The places of the counts: the words that a call reads, and those that it writes, which are a line, a cut, a plan, the answer of
-# a test or the positions of a step; scratch; the positions and answers of a list of steps; totals; the list.
-READ, WRITTEN, SCRATCH, POSITIONS, ANSWERS, TOTALS, LIST = range(ENTRIES, ENTRIES + 7)
+# a test or the positions of a step; scratch; the positions and answers of a list of steps; totals; bytes; the list.
+READ, WRITTEN, SCRATCH, POSITIONS, ANSWERS, TOTALS, BYTES, LIST = range(ENTRIES, ENTRIES + 8)
 
 # The first places of the words.
 READ_AT = LIST + 1
@@ -53,11 +57,14 @@ FILLER = 900000
 ALL_TOTALS = 5
 FOR_ANSWER = 8
 
-# The kinds of words: of a cut, a line or a plan; scratch; positions; answers; totals. The ways with 8 more than needed, and with
-# one too few of each kind.
-OF_CUT, OF_SCRATCH, OF_POSITIONS, OF_ANSWERS, OF_TOTALS = range(5)
-MORE = 8
-FEW = 9
+# The bytes that there are to lend, and those of the longest packed log that the output has.
+ROOM = 65536
+SHOWN = 10000
+
+# The kinds of words: of a cut, a line or a plan; scratch; positions; answers; totals. The last kind is the bytes of a packed log.
+# The ways with just enough, with no byte, with 8 more than needed, and with one too few of each kind.
+OF_CUT, OF_SCRATCH, OF_POSITIONS, OF_ANSWERS, OF_TOTALS, OF_BYTES = range(6)
+ENOUGH, NO_BYTE, MORE, FEW = range(6, 10)
 WAYS = range(FEW + 1)
 
 # The first lines with changed words, of a list, and of lost starts; the changes.
@@ -85,8 +92,13 @@ def size(log):
     return 1 if reference.refusal(log) else reference.read(log).n
 
 
+def packed_length(log):
+    """The number of bytes of the packed log; of the log itself, but at least 1, where it is refused."""
+    return max(1, len(log)) if reference.refusal(log) else len(reference.packed(reference.read(log)))
+
+
 def lent(needed, kind, way):
-    """How many words of a kind are lent."""
+    """How many words or bytes of a kind are lent."""
     return needed - 1 if way in (kind, FEW) else needed + 8 if way == MORE else needed
 
 
@@ -147,7 +159,7 @@ class Calls:
                 self.numbers[at] = value
 
     def lend(self, place, needed, kind, way):
-        """Lends words of a kind in a way; their number stands at the place."""
+        """Lends words or bytes of a kind in a way; their number stands at the place."""
         self.put(place, [lent(needed, kind, way)])
 
     def lend_plan(self, way):
@@ -177,6 +189,7 @@ class Calls:
         self.put_list(way, 8 * (self.n + 2))
         self.lend(ANSWERS, 8 * (self.n + 2), OF_ANSWERS, way)
         self.make("steps")
+        self.add_pack(way)
 
     def add_tests(self, way):
         self.put(READ_AT, self.words.cut)
@@ -201,6 +214,14 @@ class Calls:
         self.lend(ANSWERS, REPLAYED * (self.n + 1), OF_ANSWERS, way)
         self.lend(TOTALS, 4, OF_TOTALS, way)
         self.make("restore", self.worker)
+
+    def add_pack(self, way):
+        length = packed_length(self.log)
+        if way < OF_TOTALS or way in (ENOUGH, MORE) and length > SHOWN:
+            return
+        self.put(BYTES, [0 if way == NO_BYTE else lent(length, OF_BYTES, way)])
+        self.lend(TOTALS, 1, OF_TOTALS, way)
+        self.make("pack")
 
     def put_list(self, way, count):
         self.put(LIST_AT, worker_numbers(way % len(PATTERNS), self.n, count))

@@ -7,19 +7,29 @@ after = what it returned:
 
 A changed word has its kind, its number and what it holds after the call. The kinds are w, of a line, a cut or a plan, the
 answer of a test, or positions after steps; p, positions, and a, answers, of a list of steps; s, scratch, which is free after a
-success. The lower cut, the plan and `restore`, which is `restore_and_replay`, have their totals; 999 is one not written.
+success. The lower cut, the plan and `restore`, which is `restore_and_replay`, have their totals; 999 is one not written. So does
+`pack`, whose total is the bytes written; before it stand the bytes after `out:`, in hexadecimal, where one of them was changed:
+those lent and PAST more. A byte not written is a5.
 """
 
 import reference
 from calls import (
-    ALL_TOTALS, ANSWERS, ANSWERS_AT, FILLER, LINE, LIST, LIST_AT, NAMES, POSITIONS, READ, READ_AT, SCRATCH, SIZE, TOTALS,
-    WRITTEN, WRITTEN_AT, case_of, entries_of)
+    ALL_TOTALS, ANSWERS, ANSWERS_AT, BYTES, FILLER, LINE, LIST, LIST_AT, NAMES, POSITIONS, READ, READ_AT, ROOM, SCRATCH, SIZE,
+    TOTALS, WRITTEN, WRITTEN_AT, case_of, entries_of)
 
 UNTOUCHED = 999
+
+# What a lent byte holds before a call, and how many bytes past those lent are printed with them.
+GUARD = b"\xa5"
+PAST = 8
 
 
 def changes(kind, before, after):
     return "".join(" %s%d:%d" % (kind, k, word) for k, word in enumerate(after) if word != before[k])
+
+
+def bytes_text(before, after):
+    return "" if after == before else " out:" + (after + GUARD * PAST).hex()
 
 
 def totals_text(totals):
@@ -36,6 +46,10 @@ class Made:
     def part(self, kind, at):
         """The words that are lent of a kind, from this place on."""
         return self.numbers[at:at + self.numbers[kind]]
+
+    def part_of_totals(self):
+        """The totals that are lent."""
+        return [UNTOUCHED] * min(self.numbers[TOTALS], ALL_TOTALS)
 
     def log_refusal(self, _):
         return reference.refusal(self.log), ""
@@ -88,9 +102,14 @@ class Made:
             self.part(WRITTEN, WRITTEN_AT), self.part(POSITIONS, WRITTEN_AT), self.part(ANSWERS, ANSWERS_AT))
         number, totals, plan, after, left = reference.restore_and_replay_call(
             self.log, worker, self.event, self.part(LIST, LIST_AT), words, self.numbers[SCRATCH], positions, answers,
-            [UNTOUCHED] * min(self.numbers[TOTALS], ALL_TOTALS))
+            self.part_of_totals())
         replayed = changes("p", positions, after) + changes("a", answers, left)
         return number, replayed + changes("w", words, plan) + totals_text(totals)
+
+    def pack(self, _):
+        lent = GUARD * min(self.numbers[BYTES], ROOM)
+        number, after, written = reference.pack_call(self.log, lent, self.part_of_totals())
+        return number, bytes_text(lent, after) + totals_text(written)
 
 
 def case_lines(name, content):

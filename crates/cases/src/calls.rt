@@ -1,19 +1,22 @@
-// The calls on the numbers given. Each function prints the words that its call changes, and gives what the call returned.
+// The calls on the numbers given. Each function prints the words or bytes that its call changes, and gives what the call returned.
 
 use super::numbers;
 use super::numbers::ANSWERS_AT;
 use super::numbers::LIST_AT;
 use super::numbers::READ_AT;
+use super::numbers::ROOM;
 use super::numbers::SIZE;
 use super::numbers::WRITTEN_AT;
 use super::numbers::part;
 use super::text;
+use super::text::GUARD;
+use super::text::PAST;
 use super::text::TOTALS;
 use super::text::UNTOUCHED;
 use super::text::print_changes;
 
 // A new line has this number, and the calls have those below it.
-const LINE: usize = 10;
+const LINE: usize = 11;
 
 pub const ENTRIES: usize = LINE + 1;
 
@@ -112,6 +115,22 @@ fn run_restore(log: &[u8], event: u32, given: [u32; SIZE], worker: u32) -> u32 {
     number
 }
 
+// The packed log, in the bytes that are lent.
+fn run_pack(log: &[u8], given: [u32; SIZE]) -> u32 {
+    let mut bytes = [GUARD; ROOM + PAST];
+    let mut totals = [UNTOUCHED; TOTALS];
+    let count = numbers::bytes_lent(given);
+    let number = planner::pack(
+        log,
+        numbers::first(&mut bytes, count),
+        numbers::part_of_totals(&mut totals, given),
+    );
+    let shown = numbers::first(&mut bytes, count + PAST);
+    text::print_bytes(shown);
+    text::print_totals(&totals);
+    number
+}
+
 // A call, with its name before what it changes and its result after that; or a new line of this number.
 pub(crate) fn run_entry(
     name: &[u8],
@@ -128,6 +147,7 @@ pub(crate) fn run_entry(
             7 => run_search(log, event, given, false, value),
             8 => run_search(log, event, given, true, value),
             9 => run_restore(log, event, given, value),
+            10 => run_pack(log, given),
             _ => run_one(log, event, given, call, value),
         };
         text::print_byte(b' ');

@@ -1,5 +1,5 @@
-// Makes the calls that standard input lists for each case, and prints what each returns and the words that it changes, each line with the case's
-// name first. `scripts/calls.py` says which calls they are, and how they are listed.
+// Makes the calls that standard input lists for each case, and prints what each returns and the words or bytes that it changes, each line with
+// the case's name first. `scripts/calls.py` says which calls they are, and how they are listed.
 // An argument names a case file, an input of the program `plan`: worker and event, 32 bits each, then the log.
 
 mod calls;

@@ -1,4 +1,5 @@
-// The numbers that a call is given, in one array: how many words are lent of each kind, the words that it reads, and those that it writes over.
+// The numbers that a call is given, in one array: how many words, or bytes, are lent of each kind, the words that it reads, and those that it
+// writes over.
 
 ghost use Prim.Native.Nat.{_<_, _≤_};
 ghost use lib.ListN.{length};
@@ -7,24 +8,26 @@ ghost use lib.ListN.{length};
 pub const FILLER: u32 = 900000;
 
 // The places of the counts. READ: the words of a cut or a plan that a call reads. WRITTEN: those that it writes, of a line, a cut or a plan,
-// the answer of a test, or the positions of a step. Then scratch, the positions and answers of a list of steps, totals, and the list.
-pub const READ: usize = 11;
+// the answer of a test, or the positions of a step. Then scratch, the positions and answers of a list of steps, totals, bytes, and the list.
+pub const READ: usize = 12;
 
-pub const WRITTEN: usize = 12;
+pub const WRITTEN: usize = 13;
 
-pub const SCRATCH: usize = 13;
+pub const SCRATCH: usize = 14;
 
-pub const POSITIONS: usize = 14;
+pub const POSITIONS: usize = 15;
 
-pub const ANSWERS: usize = 15;
+pub const ANSWERS: usize = 16;
 
-pub const TOTALS: usize = 16;
+pub const TOTALS: usize = 17;
 
-pub const LIST: usize = 17;
+pub const BYTES: usize = 18;
+
+pub const LIST: usize = 19;
 
 // The first places of the words that are read, of the list, of the words that are written, and of the answers of a list, which are beyond the
 // positions; with 8 words more than the largest log needs.
-pub const READ_AT: usize = 18;
+pub const READ_AT: usize = 20;
 
 pub const LIST_AT: usize = READ_AT + 3 * log::MAX_WORKERS + 8;
 
@@ -33,6 +36,9 @@ pub const WRITTEN_AT: usize = LIST_AT + 8 * (log::MAX_WORKERS + 2);
 pub const ANSWERS_AT: usize = WRITTEN_AT + log::MAX_WORKERS + 8;
 
 pub const SIZE: usize = WRITTEN_AT + log::MAX_WORKERS * log::MAX_WORKERS + 8;
+
+// The bytes that there are to lend.
+pub const ROOM: usize = 65536;
 
 // A number as one of words.
 fn wide(x: u32) -> usize {
@@ -57,4 +63,23 @@ pub(crate) fn part_of_totals(totals: &mut [u64], given: [u32; SIZE]) -> &mut [u6
         return &mut totals[0..count];
     }
     totals
+}
+
+// How many bytes are lent: as many as stand at place BYTES, or as there are.
+pub(crate) fn bytes_lent(given: [u32; SIZE]) -> usize
+    ensures { λ r. ⌜ r ≤ 65536 ⌝ }
+{
+    let count = wide(given[BYTES]);
+    if count < ROOM {
+        return count;
+    }
+    ROOM
+}
+
+// The first bytes, so many or all.
+pub(crate) fn first(bytes: &mut [u8], count: usize) -> &mut [u8] {
+    if count < bytes.len() {
+        return &mut bytes[0..count];
+    }
+    bytes
 }

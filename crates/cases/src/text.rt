@@ -9,9 +9,14 @@ pub const TOTALS: usize = 5;
 
 pub const UNTOUCHED: u64 = 999;
 
+// What each byte holds before a call, and how many past those lent are printed with them.
+pub const GUARD: u8 = 165;
+
+pub const PAST: usize = 8;
+
 // The names of the calls, in WIDTH bytes each; the number of a call is its place among them.
-const NAMES: [u8; 10 * WIDTH] =
-    *b" log_refusal vector      upper_line  covers      cut_test    step        steps       lower_cut   plan        restore    ";
+const NAMES: [u8; 11 * WIDTH] =
+    *b" log_refusal vector      upper_line  covers      cut_test    step        steps       lower_cut   plan        restore     pack       ";
 
 const WIDTH: usize = 12;
 
@@ -23,7 +28,7 @@ pub(crate) fn print_byte(byte: u8) {
 
 // Prints the name of a call.
 pub(crate) fn print_name(call: usize)
-    requires { ⌜ call < 10 ⌝ }
+    requires { ⌜ call < 11 ⌝ }
 {
     let from = WIDTH * call;
     io::write_all(STDOUT_FILENO, &NAMES[from..from + WIDTH]);
@@ -56,5 +61,34 @@ pub(crate) fn print_totals(totals: &[u64; TOTALS]) {
         print_byte(b' ');
         io::print_decimal(STDOUT_FILENO, totals[k]);
         k += 1;
+    }
+}
+
+// A byte as a number to print.
+fn wide(x: u8) -> u64 {
+    x as u64
+}
+
+// Whether a byte is not as before the call.
+fn is_changed(bytes: &[u8]) -> bool {
+    let mut k: usize = 0;
+    while k < bytes.len() {
+        if bytes[k] != GUARD {
+            return true;
+        }
+        k += 1;
+    }
+    false
+}
+
+// Prints every byte in hexadecimal, if one of them is changed.
+pub(crate) fn print_bytes(bytes: &[u8]) {
+    if is_changed(bytes) {
+        io::write_all(STDOUT_FILENO, b" out:");
+        let mut k: usize = 0;
+        while k < bytes.len() {
+            io::print_hex(STDOUT_FILENO, wide(bytes[k]), 2);
+            k += 1;
+        }
     }
 }
