@@ -16,7 +16,7 @@ import sys
 import reference
 from calls import listed
 from expected import case_lines
-from logs import Worker, build, case_file, cut_to, extended, in_form, tube
+from logs import Worker, build, case_file, cut_to, extended, in_form, packed, tube
 from reference import MAX_WORKERS
 
 # The last of the most workers.
@@ -523,6 +523,100 @@ case("11_before_the_breakpoint", 11, two(second_checkpoints=[(1, 0)]), worker=2,
 for worker, event in ((2, 1), (0, 0)):
     case("24_before_the_breakpoint_%d_%d" % (worker, event), 24, two(first=TWICE, form=2), worker, event)
     case("a_send_received_twice_refused_%d_%d" % (worker, event), 0, two(first=TWICE), worker, event)
+
+
+# ---- Packed logs: "header, then each worker's events and after them its checkpoints, in worker order, without gaps"
+# A log that is given 26 is too long for an input of `plan`: reference.py --check and the Rust tests have such logs.
+
+# the tube log and the log of two workers are packed already, in both forms
+for log in (tube(), two()):
+    assert all(reference.packed(reference.read(in_form(log, form))) == in_form(log, form) for form in reference.FORMS)
+
+
+def pack_case(name, workers, places, fields=None, form=1, worker=0, event=1):
+    """A case whose packed log is the log that `build` makes of these workers when it is given neither places nor fields."""
+    log = build(workers, places, fields, form)
+    case(name, 0, log, worker, event)
+    wanted = build(workers, form=form)
+    assert wanted != log, name + " is packed"
+    assert reference.packed(reference.read(log)) == wanted, name + " has another packed log by the reference"
+
+
+# no two of the workers have as many events or as many checkpoints
+THREE = [
+    Worker(3, [("send", 1, 1), ("send", 2, 2), ("receive", 1, 2, 5)], [(1, 1)]),
+    Worker(0, [("logged", 0, 1, 3), ("send", 0, 4)], [(0, 1), (1, 2), (2, 5)]),
+    Worker(2, [("receive", 0, 2, 6)], [(0, 3), (1, 4)]),
+]
+BOTH = ("events", "checkpoints")
+# the first worker is the last one in the log
+pack_case("workers_in_reverse_order", THREE, [(what, w) for w in (2, 1, 0) for what in BOTH], event=3)
+pack_case("checkpoints_of_each_before_its_events", THREE, [(what, w) for w in range(3) for what in BOTH[::-1]], event=3)
+pack_case("checkpoints_of_all_before_the_events", THREE, [(what, w) for what in BOTH[::-1] for w in range(3)], event=3)
+SCATTERED = [
+    5, ("events", 1), 1, ("checkpoints", 2), 8, ("checkpoints", 0), 3, ("events", 2), 12, ("checkpoints", 1), 2, ("events", 0), 20,
+]
+# every section is elsewhere, and there are gaps before the first one, between any two and after the last one
+pack_case("sections_in_another_order_with_gaps", THREE, SCATTERED, event=3)
+pack_case("sections_in_another_order_with_gaps_in_form_2", THREE, SCATTERED, form=2, event=3)
+# a gap as long as an event
+pack_case("gap_after_the_header", THREE, [12] + packed(THREE), event=3)
+pack_case("gap_after_a_header_without_records", without_events(1), [3], event=0)
+
+ALONE = [Worker(2, [], [(0, 7), (0, 9)])]
+# n is 1: it has no event, since that needs a peer
+case("checkpoints_of_one_worker", 0, build(ALONE), event=0)
+pack_case("checkpoints_of_one_worker_after_a_gap", ALONE, [4, ("checkpoints", 0)], event=0)
+# n is 64: the last worker's section is the first one in the log
+pack_case("sixty_four_workers_in_reverse_order", [
+    Worker(w % 4, [("send", (w + 1) % MAX_WORKERS, w + 1)] if w % 3 else [], [(0, w + 1)] if w % 2 else [])
+    for w in range(MAX_WORKERS)
+], [(what, w) for w in range(LAST, -1, -1) for what in BOTH[::-1]], form=2, worker=LAST, event=0)
+
+# no events at all, and no checkpoints at all
+pack_case("checkpoints_without_any_event", [Worker(w, [], [(0, c) for c in range(1, w + 2)]) for w in range(3)],
+    [("checkpoints", 1), ("checkpoints", 2), 6, ("checkpoints", 0)], event=0)
+pack_case("events_without_any_checkpoint", [Worker(worker.role, worker.events) for worker in THREE],
+    [("events", 2), ("events", 0), 1, ("events", 1)], event=3)
+
+# a worker without checkpoints, one without events and one without either: an empty section has the offset where it would begin
+HALVES = [
+    Worker(1, [("send", 2, 1), ("send", 2, 3)]), Worker(3, [], [(0, 1)]), Worker(2, [("receive", 0, 2, 4)], [(1, 2)]), Worker(3),
+]
+EMPTY = [(0, "checkpoint offset"), (1, "event offset"), (3, "event offset"), (3, "checkpoint offset")]
+# it is at the header's end, inside a record of another section, or at the log's end
+for place, at in (("the_header_end", 88), ("a_record", 88 + 5), ("the_log_end", 88 + 24 + 8 + 12 + 8)):
+    pack_case("empty_sections_of_three_workers_at_" + place, HALVES, None, {field: at for field in EMPTY}, event=2)
+# only this offset is another one than in the packed log
+pack_case("packed_but_for_the_offset_of_empty_events", HALVES, None, {(1, "event offset"): 88}, event=2)
+pack_case("packed_but_for_the_offset_of_empty_checkpoints", HALVES, None, {(0, "checkpoint offset"): 88 + 24 + 8}, event=2)
+
+SHARING = [Worker(w, [("send", 4, 1), ("send", 4, 3)], [(0, 1), (1, 2), (2, 3)]) for w in range(4)]
+# the packed log is longer: the first four workers have the same events and checkpoints, and each has them in the packed log
+pack_case("packed_log_longer_than_the_log", SHARING + [Worker(0, [("receive", w, 2, 5 + w) for w in range(4)], [(0, 2)])],
+    [("checkpoints", 0), ("events", 0), ("events", 4), ("checkpoints", 4)],
+    {(w, what): at for w in range(4) for what, at in (("checkpoint offset", 108), ("event offset", 108 + 24))}, worker=4, event=4)
+# the checkpoints of worker 1 are the last two of worker 0 and those of worker 2 its last one
+pack_case("checkpoints_that_are_the_last_of_others", [
+    Worker(0, [("send", 1, 1)], [(0, 1), (0, 5), (0, 6)]), Worker(1, [], [(0, 5), (0, 6)]), Worker(2, [], [(0, 6)]),
+], [("checkpoints", 0), ("events", 0)], {(1, "checkpoint offset"): 68 + 8, (2, "checkpoint offset"): 68 + 16})
+
+# every byte of the stamps and of the identifiers is another number and none is 0; the spare bytes stay 0
+pack_case("stamps_and_identifiers_of_four_bytes", [
+    Worker(1, [("send", 1, 0x0A0B0C0D), ("receive", 1, 2, 0xF1F2F3F4)], [(0, 0x11121314), (1, 0x21222324), (2, 0xFFFEFDFC)]),
+    Worker(2, [("receive", 0, 1, 0x1A1B1C1D), ("send", 0, 0xE1E2E3E4)], [(2, 0x5A5B5C5D)]),
+], [("checkpoints", 1), ("events", 0), 1, ("checkpoints", 0), ("events", 1)], event=2)
+MANY = 258
+# more than 255 events, so that counts, offsets, peer events and indices of two bytes are moved
+pack_case("numbers_of_two_bytes", [
+    Worker(0, [("send", 1, x) for x in range(1, MANY + 1)], [(1, 1), (MANY, MANY)]),
+    Worker(1, [("receive", 0, MANY, 300), ("receive", 0, 1, 301)], [(2, 513)]),
+], [("events", 1), ("checkpoints", 1), ("events", 0), ("checkpoints", 0)], worker=1, event=2)
+
+TWICE_SCATTERED = [2, ("events", 1), ("checkpoints", 1), 4, ("checkpoints", 0), ("events", 0)]
+# 24 in a log whose sections are elsewhere; form 1 has a packed log
+case("a_send_received_twice_in_another_order", 0, two(first=TWICE, places=TWICE_SCATTERED), event=3)
+case("a_send_received_twice_in_another_order_in_form_2", 24, two(first=TWICE, places=TWICE_SCATTERED, form=2), event=3)
 
 
 # ---- Accepted logs for the vector, the lower cut, the upper line and the cut test
