@@ -1,19 +1,23 @@
-//! The calls of document 01 and form 2 of the log (document 02, note 1), written in Rust from their text alone.
+//! The calls of document 01, form 2 of the log and the packed log (document 02, notes 1 and 2), written in Rust from their text alone.
 //!
 //! Tests and benchmarks compare the exported functions with these. Each call has the parameters of the exported function of its
-//! name and does the same with every lent word: a refusal returns its number and changes none; on success the words past those
-//! named are untouched. The lent scratch is never written.
+//! name and does the same with every lent word and byte: a refusal returns its number and changes none; on success those past the
+//! named ones are untouched. The lent scratch is never written.
 
 #![forbid(unsafe_code)]
 #![deny(missing_docs)]
 
 mod causality;
 mod log;
+mod pack;
 mod repeats;
 mod replay;
 mod restore;
 
 pub use causality::{cut_test, lower_cut, upper_line, vector};
-pub use log::{accept, log_refusal, Checkpoint, Event, Form, Log, Worker, FORMS, MAX_WORKERS};
+pub use log::{
+    accept, log_refusal, Checkpoint, Event, Form, Log, Worker, FORMS, MAX_LOG, MAX_WORKERS,
+};
+pub use pack::pack;
 pub use replay::{restore_and_replay, step, steps};
 pub use restore::{covers, plan};

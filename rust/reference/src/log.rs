@@ -2,6 +2,9 @@
 
 use crate::repeats::some_send_received_twice;
 
+/// The most bytes of a log.
+pub const MAX_LOG: usize = 4_194_304;
+
 /// The largest worker count of a log.
 pub const MAX_WORKERS: usize = 64;
 
@@ -56,7 +59,7 @@ pub struct Worker<'a> {
     /// The role, 0 to 3.
     pub role: u32,
     pub(crate) events: &'a [[u8; 12]],
-    checkpoints: &'a [[u8; 8]],
+    pub(crate) checkpoints: &'a [[u8; 8]],
 }
 
 /// A log that has been accepted.
@@ -180,7 +183,7 @@ fn entry(log: &[u8], worker: usize) -> Entry {
 
 /// Refusals 1 to 6, or the workers with their sections.
 fn layout(log: &[u8]) -> Result<Log<'_>, u32> {
-    if !(8..=4_194_304).contains(&log.len()) {
+    if !(8..=MAX_LOG).contains(&log.len()) {
         return Err(1);
     }
     let number = half(log, 0);

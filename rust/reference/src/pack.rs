@@ -1,0 +1,64 @@
+//! The packed log (document 02, note 2).
+
+use crate::log::{accept, number, refuse_if, Log, MAX_LOG};
+
+/// The packed log to the first bytes of `out`, and its length to the first word of `written`.
+pub fn pack(log: &[u8], out: &mut [u8], written: &mut [u64]) -> u32 {
+    number(try_pack(log, out, written))
+}
+
+fn try_pack(log: &[u8], out: &mut [u8], written: &mut [u64]) -> Result<(), u32> {
+    let log = accept(log)?;
+    let length = header_length(&log) + sections_length(&log);
+    refuse_if(length > MAX_LOG, 26)?;
+    refuse_if(out.len() < length, 25)?;
+    refuse_if(written.is_empty(), 14)?;
+    write_packed(&log, &mut out[..length]);
+    written[0] = length as u64;
+    Ok(())
+}
+
+fn header_length(log: &Log) -> usize {
+    8 + 20 * log.size()
+}
+
+/// The bytes of all events and checkpoints, those of each worker counted for itself.
+fn sections_length(log: &Log) -> usize {
+    log.workers
+        .iter()
+        .map(|worker| size_of_val(worker.events) + size_of_val(worker.checkpoints))
+        .sum()
+}
+
+/// Writes the packed log to all bytes of `out`.
+fn write_packed(log: &Log, out: &mut [u8]) {
+    let length = out.len() as u32;
+    let (header, mut rest) = out.split_at_mut(header_length(log));
+    let (start, entries) = header.split_at_mut(8);
+    start[..2].copy_from_slice(&log.form.number.to_le_bytes());
+    start[2..4].copy_from_slice(&(log.size() as u16).to_le_bytes());
+    start[4..].copy_from_slice(&length.to_le_bytes());
+    for (worker, entry) in log.workers.iter().zip(entries.as_chunks_mut::<20>().0) {
+        let events = worker.events.as_flattened();
+        let checkpoints = worker.checkpoints.as_flattened();
+        let event_offset = length - rest.len() as u32;
+        let numbers = [
+            worker.count(),
+            event_offset,
+            worker.checkpoints.len() as u32,
+            event_offset + events.len() as u32,
+            worker.role,
+        ];
+        for (field, number) in entry.as_chunks_mut::<4>().0.iter_mut().zip(numbers) {
+            *field = number.to_le_bytes();
+        }
+        rest = put(put(rest, events), checkpoints);
+    }
+}
+
+/// Copies a section to the first of these bytes; gives the others.
+fn put<'a>(bytes: &'a mut [u8], section: &[u8]) -> &'a mut [u8] {
+    let (to, others) = bytes.split_at_mut(section.len());
+    to.copy_from_slice(section);
+    others
+}
