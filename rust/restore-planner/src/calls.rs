@@ -2,8 +2,8 @@
 //!
 //! Each function lends its slices to the exported function of the same name and returns that function's number: 0, or the number
 //! of a refusal; [`Refusal::check`](crate::Refusal::check) and [`Step::check`](crate::Step::check) say what it means. The exported
-//! functions have no precondition, so any numbers and any slices are good. A refusal changes no lent word. On success the words
-//! past those named are untouched; scratch alone is free.
+//! functions have no precondition, so any numbers and any slices are good. A refusal changes no lent word and no lent byte. On success
+//! those past the named ones are untouched; scratch alone is free.
 //!
 //! This module has the declarations and all `unsafe` code of the crate. A slice is a pointer and then a length. The exported
 //! functions read and write within the slices that they are lent and keep none of them; nothing checks that the declarations here
@@ -117,6 +117,15 @@ mod exported {
             steps_length: usize,
             totals: *mut u64,
             totals_length: usize,
+        ) -> u32;
+
+        pub fn pack(
+            log: *const u8,
+            log_length: usize,
+            out: *mut u8,
+            out_length: usize,
+            written: *mut u64,
+            written_length: usize,
         ) -> u32;
     }
 }
@@ -315,6 +324,21 @@ pub fn restore_and_replay(
             steps.len(),
             totals.as_mut_ptr(),
             totals.len(),
+        )
+    }
+}
+
+/// Writes the packed log to the first bytes of `out`, and how many they are to the first word of `written`.
+pub fn pack(log: &[u8], out: &mut [u8], written: &mut [u64]) -> u32 {
+    // SAFETY: each pointer goes with the length of its slice, which is borrowed for the whole call, alone where it is mutable.
+    unsafe {
+        exported::pack(
+            log.as_ptr(),
+            log.len(),
+            out.as_mut_ptr(),
+            out.len(),
+            written.as_mut_ptr(),
+            written.len(),
         )
     }
 }

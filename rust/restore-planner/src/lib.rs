@@ -1,7 +1,8 @@
 //! Restore plans and replays of a house log, over the proved static library `libplanner.a`.
 //!
 //! A [`Log`] is bytes that were accepted. It gives the [`Plan`] of a [`Breakpoint`]: for each worker the checkpoint to start from
-//! and the event at which its replay ends. A [`Replay`] makes the steps of a plan.
+//! and the event at which its replay ends. A [`Replay`] makes the steps of a plan. [`Log::packed`] gives the log's content in the one
+//! layout that the archive has.
 //!
 //! ```
 //! use restore_planner::{Advance, Breakpoint, Log, Replay};

@@ -6,7 +6,7 @@ use crate::{calls, header, Breakpoint, LowerCut, Plan, Refusal, Restored};
 use std::fmt;
 
 /// An accepted log, of form 1 or 2, on bytes that it borrows. The forms differ in that a log of form 1 may have two receives of one
-/// send; every method does the same for both.
+/// send; every method does the same for both, and the packed log has the form of the log.
 ///
 /// ```
 /// use restore_planner::{Breakpoint, Log, Refusal};
@@ -204,6 +204,61 @@ impl<'a> Log<'a> {
             steps: steps.chunks_exact(width).map(StepRecord::new).collect(),
             positions,
         })
+    }
+
+    /// Writes the packed log to the first bytes of `out`; gives how many they are. The other bytes stay as they are.
+    ///
+    /// The packed log has the header, and then for each worker its events and its checkpoints, in worker order and without gaps. It is
+    /// the same for all logs of the same form, roles, events and checkpoints, wherever their sections are, and each method gives the
+    /// same for it as for the log. It may be longer than the log, where sections of the log share bytes.
+    ///
+    /// ```
+    /// use restore_planner::{Log, Refusal};
+    ///
+    /// let bytes = include_bytes!(concat!(env!("CARGO_MANIFEST_DIR"), "/examples/tube.log"));
+    /// let log = Log::new(bytes)?;
+    /// let mut out = [7; 300];
+    /// assert_eq!(log.pack(&mut out)?, 212);
+    /// // The tube log is packed.
+    /// assert_eq!(out[..212], *bytes);
+    /// assert!(out[212..].iter().all(|&byte| byte == 7));
+    /// assert_eq!(log.pack(&mut out[..211]), Err(Refusal::OutBytes));
+    /// # Ok::<(), Refusal>(())
+    /// ```
+    ///
+    /// # Errors
+    ///
+    /// [`Refusal::PackedLength`] where the packed log would have over 4,194,304 bytes, else [`Refusal::OutBytes`] where `out` has fewer
+    /// than the packed log. Both leave `out` as it is.
+    pub fn pack(&self, out: &mut [u8]) -> Result<usize, Refusal> {
+        let mut written = [0];
+        Refusal::check(calls::pack(self.bytes, out, &mut written))?;
+        let [length] = written;
+        // At most the length of `out`.
+        Ok(length as usize)
+    }
+
+    /// The packed log, as [`Log::pack`] writes it.
+    ///
+    /// ```
+    /// use restore_planner::Log;
+    ///
+    /// # let bytes = include_bytes!(concat!(env!("CARGO_MANIFEST_DIR"), "/examples/tube.log"));
+    /// let packed = Log::new(bytes)?.packed()?;
+    /// assert_eq!(packed, bytes);
+    /// assert_eq!(Log::new(&packed)?.packed()?, packed);
+    /// # Ok::<(), restore_planner::Refusal>(())
+    /// ```
+    ///
+    /// # Errors
+    ///
+    /// [`Refusal::PackedLength`] where the packed log would have over 4,194,304 bytes.
+    pub fn packed(&self) -> Result<Vec<u8>, Refusal> {
+        let mut bytes = vec![0; header::MOST_BYTES];
+        let length = self.pack(&mut bytes)?;
+        bytes.truncate(length);
+        bytes.shrink_to_fit();
+        Ok(bytes)
     }
 
     /// Scratch words for a call.

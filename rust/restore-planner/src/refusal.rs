@@ -5,8 +5,8 @@ use std::fmt;
 
 /// Why a log or an argument was not accepted.
 ///
-/// Of the conditions that apply, the one with the smallest number is given, where 24 counts as being between 11 and 12.
-/// [`Refusal::number`] is the number of document 01; 24 is that of document 02, note 1.
+/// Of the conditions that apply, the one with the smallest number is given, where 24, 26 and 25 count, in this order, as being between
+/// 11 and 12. [`Refusal::number`] is the number of document 01; 24 is that of document 02, note 1, and 25 and 26 are those of note 2.
 #[derive(Clone, Copy, Debug, PartialEq, Eq, Hash)]
 #[non_exhaustive]
 pub enum Refusal {
@@ -44,13 +44,17 @@ pub enum Refusal {
     Cut,
     /// 24: the log is of form 2, and two receives name one send. It is tested after 11 and before 12.
     Repeat,
+    /// 25: there are fewer bytes than the packed log has. It is tested after 26 and before 12.
+    OutBytes,
+    /// 26: the packed log would have over 4,194,304 bytes. It is tested after 24.
+    PackedLength,
     /// A number that this library does not know.
     Unlisted(u32),
 }
 
 impl Refusal {
     /// The refusals by rising number, [`Refusal::Unlisted`] excepted.
-    pub const LISTED: [Refusal; 17] = [
+    pub const LISTED: [Refusal; 19] = [
         Refusal::LogLength,
         Refusal::Form,
         Refusal::WorkerCount,
@@ -68,6 +72,8 @@ impl Refusal {
         Refusal::Scratch,
         Refusal::Cut,
         Refusal::Repeat,
+        Refusal::OutBytes,
+        Refusal::PackedLength,
     ];
 
     /// What the number of a call means, for numbers that come from [`calls`](crate::calls). A step's number has its own meanings:
@@ -86,7 +92,7 @@ impl Refusal {
             .unwrap_or(Refusal::Unlisted(number)))
     }
 
-    /// The number of document 01 or, for 24, of document 02.
+    /// The number of document 01 or, for 24 to 26, of document 02.
     pub fn number(self) -> u32 {
         match self {
             Refusal::LogLength => 1,
@@ -106,6 +112,8 @@ impl Refusal {
             Refusal::Scratch => 15,
             Refusal::Cut => 16,
             Refusal::Repeat => 24,
+            Refusal::OutBytes => 25,
+            Refusal::PackedLength => 26,
             Refusal::Unlisted(number) => number,
         }
     }
@@ -156,6 +164,10 @@ impl Refusal {
             }
             Refusal::Repeat => {
                 "two receives in the log name the same send, which a log of form 2 does not allow"
+            }
+            Refusal::OutBytes => "too few bytes were given for the packed log",
+            Refusal::PackedLength => {
+                "the packed log would be longer than 4,194,304 bytes, since sections of the log share bytes"
             }
             Refusal::Unlisted(_) => {
                 "the planner gave a number that this version of the library does not know"

@@ -25,7 +25,7 @@ fn refused(bytes: &[u8]) -> Refusal {
 #[test]
 fn refusals_have_the_numbers_of_documents_01_and_02() {
     let numbers: Vec<u32> = Refusal::LISTED.iter().map(|r| r.number()).collect();
-    assert_eq!(numbers, (1..=16).chain([24]).collect::<Vec<u32>>());
+    assert_eq!(numbers, (1..=16).chain(24..=26).collect::<Vec<u32>>());
     assert_eq!(Refusal::check(0), Ok(()));
     for refusal in Refusal::LISTED {
         assert_eq!(Refusal::check(refusal.number()), Err(refusal));
@@ -149,6 +149,97 @@ fn two_receives_of_one_send() {
     let mut bytes = repeating_tube(2);
     bytes[LAST_OF_0 + 8] = 5;
     assert_eq!(refused(&bytes), Refusal::Stamp);
+}
+
+/// Lends this many bytes, all 7, to the packing of a log; gives what it returned and all of them.
+fn packed_into(log: &Log, length: usize) -> (Result<usize, Refusal>, Vec<u8>) {
+    let mut out = vec![7; length];
+    (log.pack(&mut out), out)
+}
+
+#[test]
+fn the_packed_tube_log() {
+    for form in [1, 2] {
+        let bytes = tube_of_form(form);
+        let log = Log::new(&bytes).unwrap();
+        assert_eq!(log.packed(), Ok(bytes.clone()));
+        assert_eq!(packed_into(&log, 212), (Ok(212), bytes.clone()));
+        let longer = [&bytes[..], &[7; 8]].concat();
+        assert_eq!(packed_into(&log, 220), (Ok(212), longer));
+        for short in [0, 1, 8, 68, 211] {
+            let unchanged = (Err(Refusal::OutBytes), vec![7; short]);
+            assert_eq!(packed_into(&log, short), unchanged);
+        }
+    }
+    assert_eq!(
+        Refusal::OutBytes.to_string(),
+        "too few bytes were given for the packed log (refusal 25)"
+    );
+}
+
+/// The tube log with its sections behind a gap and in the opposite order, each behind a gap of one byte.
+fn scattered_tube() -> Vec<u8> {
+    let word = |at: usize| u32::from_le_bytes(TUBE[at..at + 4].try_into().unwrap()) as usize;
+    let mut bytes = TUBE[..68].to_vec();
+    bytes.extend([9; 33]);
+    for field in [60, 52, 40, 32, 20, 12] {
+        let size = if field % 20 == 12 { 12 } else { 8 };
+        let (count, offset) = (word(field - 4), word(field));
+        let moved = bytes.len() as u32;
+        bytes[field..field + 4].copy_from_slice(&moved.to_le_bytes());
+        bytes.extend(&TUBE[offset..offset + size * count]);
+        bytes.push(9);
+    }
+    let length = bytes.len() as u32;
+    bytes[4..8].copy_from_slice(&length.to_le_bytes());
+    bytes
+}
+
+#[test]
+fn the_tube_log_with_its_sections_moved() {
+    let bytes = scattered_tube();
+    let log = Log::new(&bytes).unwrap();
+    assert_eq!(bytes.len(), 212 + 33 + 6);
+    assert_eq!(log.packed().unwrap(), TUBE);
+    assert_eq!(packed_into(&log, 212), (Ok(212), TUBE.to_vec()));
+    assert_eq!(packed_into(&log, 211).0, Err(Refusal::OutBytes));
+    assert_eq!(log.plan(AT).unwrap(), tube_plan());
+}
+
+/// A log of form 1 in which all workers but worker 0, which has no events, share the bytes of 65,535 sends to it.
+fn shared_sends(workers: u32) -> Vec<u8> {
+    let header = 8 + 20 * workers;
+    let mut bytes = vec![1, 0, workers as u8, 0];
+    bytes.extend((header + 12 * 65_535).to_le_bytes());
+    for worker in 0..workers {
+        let events = if worker == 0 { 0 } else { 65_535 };
+        let entry = [events, header, 0, header, 0];
+        bytes.extend(entry.map(u32::to_le_bytes).as_flattened());
+    }
+    for stamp in 1..=65_535_u32 {
+        bytes.extend([1, 0, 0, 0, 0, 0, 0, 0]);
+        bytes.extend(stamp.to_le_bytes());
+    }
+    bytes
+}
+
+#[test]
+fn logs_that_share_bytes_and_grow() {
+    let bytes = shared_sends(6);
+    let log = Log::new(&bytes).unwrap();
+    let packed = log.packed().unwrap();
+    assert_eq!((bytes.len(), packed.len()), (786_548, 3_932_228));
+    assert_eq!(Log::new(&packed).unwrap().packed().unwrap(), packed);
+
+    // 4,718,668 bytes, if it were packed.
+    let bytes = shared_sends(7);
+    let log = Log::new(&bytes).unwrap();
+    assert_eq!(log.packed(), Err(Refusal::PackedLength));
+    assert_eq!(log.pack(&mut []), Err(Refusal::PackedLength));
+    assert_eq!(
+        Refusal::PackedLength.to_string(),
+        "the packed log would be longer than 4,194,304 bytes, since sections of the log share bytes (refusal 26)"
+    );
 }
 
 #[test]
