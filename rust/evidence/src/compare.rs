@@ -1,13 +1,16 @@
-//! Calls of the exported functions, each compared with the reference on its number and on every lent word, with guard words
+//! Calls of the exported functions, each compared with the reference on its number and on every lent word and byte, with guards
 //! before and behind.
 
-use crate::description::{worker_count, MAX_WORKERS, PLAN_WORDS, SCRATCH_WORDS};
+use crate::description::{
+    packed_length, worker_count, Description, MAX_LOG, MAX_WORKERS, PLAN_WORDS, SCRATCH_WORDS,
+};
 use crate::failure::{self, Call, Difference, Meaning};
 use crate::random::Random;
+use crate::sides::{Arguments, EXPORTED, NAMES};
 use reference::Log;
 use restore_planner::calls;
 
-/// Guard words on each side of lent words.
+/// Guards on each side of lent words or bytes.
 const GUARD: usize = 5;
 
 /// The totals of a lower cut.
@@ -15,7 +18,10 @@ const CUT_TOTALS: Meaning = Meaning::Named(&["visits", "workers word"]);
 /// The totals of a plan.
 const PLAN_TOTALS: Meaning = Meaning::Named(&["visits", "events", "units", "workers word"]);
 
-/// Words that are lent, between guard words. All hold any numbers at first.
+/// The words written with a packed log.
+const WRITTEN: Meaning = Meaning::Named(&["length"]);
+
+/// Words or bytes that are lent, between guards. All hold any numbers at first.
 #[derive(Clone, Debug)]
 struct Lent<T> {
     name: &'static str,
@@ -39,24 +45,24 @@ impl<T: Copy + Default + PartialEq + Into<u64>> Lent<T> {
         }
     }
 
-    /// The lent words.
+    /// What is lent.
     fn lent(&mut self) -> &mut [T] {
         &mut self.cells[GUARD..GUARD + self.length]
     }
 
-    /// Leaves only the guard words to compare, after a success with words that are free.
+    /// Leaves only the guards to compare, after a success with words that are free.
     fn forget_if(&mut self, free: bool) {
         if free {
             self.lent().fill(T::default());
         }
     }
 
-    /// The first word, a guard word too, that is not as expected.
+    /// The first word or byte, a guard too, that is not as expected.
     fn difference(&self, expected: &Lent<T>) -> Option<Difference> {
         let name = |cell: usize| match cell.checked_sub(GUARD) {
-            None => format!("guard word {cell} before {}", self.name),
+            None => format!("guard {cell} before {}", self.name),
             Some(index) if index < self.length => self.meaning.word(self.name, index),
-            Some(index) => format!("guard word {} behind {}", index - self.length, self.name),
+            Some(index) => format!("guard {} behind {}", index - self.length, self.name),
         };
         failure::words(name, &self.cells, &expected.cells)
     }
@@ -75,6 +81,14 @@ impl Lent<u32> {
         let mut lent = Lent::words(random, name, words.len());
         lent.lent().copy_from_slice(words);
         lent
+    }
+}
+
+impl Lent<u8> {
+    fn bytes(random: &mut Random, name: &'static str, length: usize) -> Lent<u8> {
+        Lent::any(random, (name, Meaning::Plain), length, |random| {
+            random.word() as u8
+        })
     }
 }
 
@@ -491,6 +505,89 @@ pub fn restore_and_replay(
     ))
 }
 
+/// Compares the packing of a log, with this many bytes and words lent. Gives the number, and the bytes that were written.
+pub fn pack(random: &mut Random, log: &[u8], bytes: usize, words: usize) -> (u32, Vec<u8>) {
+    let mut ours = (
+        Lent::bytes(random, "out", bytes),
+        Lent::any(random, ("written", WRITTEN), words, Random::long),
+    );
+    let (before, mut theirs) = (ours.clone(), ours.clone());
+    let number = calls::pack(log, ours.0.lent(), ours.1.lent());
+    let other = reference::pack(log, theirs.0.lent(), theirs.1.lent());
+    let call = Call {
+        name: "pack",
+        random,
+        log,
+        arguments: &[("out", bytes as u64), ("written", words as u64)],
+    };
+    call.returned(number, other);
+    // Refused: nothing that is lent changes.
+    let expected = if number == 0 { theirs } else { before };
+    call.same([
+        ours.1.difference(&expected.1),
+        ours.0.difference(&expected.0),
+    ]);
+    if number != 0 {
+        return (number, Vec::new());
+    }
+    let length = ours.1.lent()[0] as usize;
+    (0, ours.0.lent()[..length].to_vec())
+}
+
+/// Compares the packing of a log with the number that it has to have, with this many bytes and words lent.
+pub fn pack_gives(random: &mut Random, log: &[u8], (bytes, words): (usize, usize), expected: u32) {
+    let (number, _) = pack(random, log, bytes, words);
+    let call = Call {
+        name: "pack",
+        random,
+        log,
+        arguments: &[("out", bytes as u64), ("written", words as u64)],
+    };
+    call.returned(number, expected);
+}
+
+/// The number of packing an accepted log to this length, with this many bytes and words lent.
+fn pack_number(length: usize, (bytes, words): (usize, usize)) -> u32 {
+    if length > MAX_LOG {
+        26
+    } else if bytes < length {
+        25
+    } else if words == 0 {
+        14
+    } else {
+        0
+    }
+}
+
+/// Compares the packed log of a log that 26 does not refuse with the one of its content, and its refusal, its packing and a call of
+/// each kind with those of the log. Gives the packed log.
+pub fn packed(random: &mut Random, log: &[u8], accepted: &Log) -> Vec<u8> {
+    let length = packed_length(accepted);
+    let (number, packed) = pack(random, log, length, 1);
+    let expected = Description::of(accepted).pack_as(accepted.form.number);
+    let arguments = Arguments::any(random, log, accepted);
+    let again = pack(random, &packed, length, 1);
+    let call = |name| Call {
+        name,
+        random,
+        log,
+        arguments: &[],
+    };
+    call("pack").returned(number, 0);
+    call("pack").holds(packed == expected, || {
+        "the packed log is not that of the log's content".to_string()
+    });
+    call("pack").holds(again == (0, packed.clone()), || {
+        format!("packing the packed log gives {} and other bytes", again.0)
+    });
+    for name in NAMES.into_iter().filter(|&name| name != "pack") {
+        let [found, expected] = [&packed, log].map(|log| arguments.answer(name, &EXPORTED, log));
+        let word = |at| format!("number or word {at}, for the packed log");
+        call(name).same([failure::words(word, &found, &expected)]);
+    }
+    packed
+}
+
 /// A plan with a list of steps, as the exported function answered it.
 #[derive(Clone, Copy, Debug, PartialEq)]
 pub enum Replayed {
@@ -580,7 +677,7 @@ fn list(random: &mut Random, log: &[u8], accepted: &Log, at: (u32, u32)) -> Vec<
 }
 
 /// The most bytes that the steps of a list together test.
-const MOST_BYTES: usize = 10_000_000;
+pub(crate) const MOST_BYTES: usize = 10_000_000;
 
 /// A number of words to lend where `needed` are needed: most often enough.
 pub fn length(random: &mut Random, needed: usize) -> usize {
@@ -745,6 +842,7 @@ impl State {
 pub struct Seen {
     numbers: Vec<u64>,
     restored: Vec<u64>,
+    packed: Vec<u64>,
     finished: u64,
     unfinished: u64,
     refused_steps: u64,
@@ -784,6 +882,16 @@ impl Seen {
         }
     }
 
+    /// Counts the number of a packing.
+    pub fn add_packed(&mut self, number: u32) {
+        count(&mut self.packed, number);
+    }
+
+    /// Fails where no packing returned one of the numbers.
+    pub fn has_packed(&self, numbers: impl IntoIterator<Item = u32>) {
+        has(&self.packed, numbers);
+    }
+
     /// Fails where one of the numbers was never returned, so that a test that has stopped to reach its cases is noticed.
     pub fn has(&self, numbers: impl IntoIterator<Item = u32>) {
         has(&self.numbers, numbers);
@@ -807,6 +915,7 @@ pub fn every_call(random: &mut Random, log: &[u8], seen: &mut Seen) {
             states(random, log, &accepted, seen);
             replays(random, log, &accepted, seen);
             tests(random, log, &accepted, seen);
+            packs(random, log, &accepted, seen);
         }
         Err(number) => refused(random, log, number, seen),
     }
@@ -867,10 +976,12 @@ fn refused_states(
     log: &[u8],
     worker: u32,
     n: usize,
-) -> [(&'static str, u32); 4] {
+) -> [(&'static str, u32); 5] {
     let words: Vec<u32> = (0..3 * n).map(|_| random.word()).collect();
     let positions: Vec<u32> = (0..n).map(|_| random.word()).collect();
     let cut = &positions;
+    let bytes = random.pick(&[0, log.len(), log.len() + 20]);
+    let written = random.below(3);
     [
         ("cut_test", cut_test(random, log, cut, n.min(2))),
         ("covers", covers(random, log, worker, n.min(2))),
@@ -879,6 +990,7 @@ fn refused_states(
             "steps",
             steps(random, log, &words, &positions, &[0, 1, 2], 4),
         ),
+        ("pack", pack(random, log, bytes, written).0),
     ]
 }
 
@@ -985,5 +1097,23 @@ fn tests(random: &mut Random, log: &[u8], accepted: &Log, seen: &mut Seen) {
     for identifier in identifiers {
         let answer = random.pick(&[0, 1, 1, 1, 2, 3]);
         seen.add(covers(random, log, identifier, answer));
+    }
+}
+
+/// Compares packings with as many bytes and words as are needed, fewer and more, and the packed log with the log.
+fn packs(random: &mut Random, log: &[u8], accepted: &Log, seen: &mut Seen) {
+    let length = packed_length(accepted);
+    let most = length.min(MAX_LOG);
+    for _ in 0..3 {
+        let fewer = random.below(most);
+        let more = most + random.within(1, 40);
+        let bytes = random.pick(&[0, fewer, most - 1, most, most, more]);
+        let lent = (bytes, random.pick(&[0, 1, 1, 2, 5]));
+        let number = pack_number(length, lent);
+        pack_gives(random, log, lent, number);
+        seen.add_packed(number);
+    }
+    if length <= MAX_LOG {
+        packed(random, log, accepted);
     }
 }

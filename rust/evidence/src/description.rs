@@ -1,14 +1,12 @@
 //! The content of a log, and its bytes in one layout or another.
 
 use crate::random::Random;
-
-/// The longest log.
-pub const MAX_LOG: usize = 4_194_304;
+use reference::Log;
 
 /// The most events of a worker.
 pub const MAX_EVENTS: u32 = 65_535;
 
-pub use reference::MAX_WORKERS;
+pub use reference::{MAX_LOG, MAX_WORKERS};
 
 /// The words of a plan of the most workers.
 pub const PLAN_WORDS: usize = 3 * MAX_WORKERS;
@@ -116,7 +114,37 @@ pub fn worker_count(log: &[u8]) -> usize {
     }
 }
 
+/// The length of the packed log of an accepted log.
+pub fn packed_length(log: &Log) -> usize {
+    let sections = log
+        .workers
+        .iter()
+        .map(|worker| 12 * worker.count() as usize + 8 * worker.checkpoints().len());
+    8 + 20 * log.size() + sections.sum::<usize>()
+}
+
 impl Description {
+    /// The content of an accepted log.
+    pub fn of(log: &Log) -> Description {
+        let event = |event: reference::Event| Event {
+            kind: event.kind,
+            peer: event.peer,
+            send: event.send,
+            stamp: event.stamp,
+        };
+        let worker = |worker: &reference::Worker| Worker {
+            role: worker.role,
+            events: worker.events(0, worker.count()).map(event).collect(),
+            checkpoints: worker
+                .checkpoints()
+                .map(|checkpoint| (checkpoint.index, checkpoint.identifier))
+                .collect(),
+        };
+        Description {
+            workers: log.workers.iter().map(worker).collect(),
+        }
+    }
+
     /// The tube log of document 01.
     pub fn tube() -> Description {
         let worker = |role, events: &[Event], index| Worker {

@@ -1,7 +1,9 @@
 //! The calls of both sides, the exported functions and the reference, and what they give for the same arguments.
 
-use crate::compare::State;
-use crate::description::SCRATCH_WORDS;
+use crate::compare::{event, length, worker, State, MOST_BYTES};
+use crate::description::{packed_length, MAX_LOG, SCRATCH_WORDS};
+use crate::random::Random;
+use reference::Log;
 use restore_planner::calls;
 
 /// A call that writes a line of n words for an event.
@@ -20,6 +22,9 @@ pub type Steps = fn(&[u8], &[u32], &mut [u32], &[u32], &mut [u32]) -> u32;
 pub type RestoreAndReplay =
     fn(&[u8], u32, u32, &[u32], &mut [u32], &mut [u32], &mut [u32], &mut [u32], &mut [u64]) -> u32;
 
+/// The packing of a log.
+pub type Pack = fn(&[u8], &mut [u8], &mut [u64]) -> u32;
+
 /// The calls of one side.
 #[derive(Clone, Copy, Debug)]
 #[allow(missing_docs)]
@@ -34,6 +39,7 @@ pub struct Calls {
     pub step: Step,
     pub steps: Steps,
     pub restore_and_replay: RestoreAndReplay,
+    pub pack: Pack,
 }
 
 /// The exported functions.
@@ -48,6 +54,7 @@ pub const EXPORTED: Calls = Calls {
     step: calls::step,
     steps: calls::steps,
     restore_and_replay: calls::restore_and_replay,
+    pack: calls::pack,
 };
 
 /// The reference.
@@ -62,10 +69,11 @@ pub const REFERENCE: Calls = Calls {
     step: reference::step,
     steps: reference::steps,
     restore_and_replay: reference::restore_and_replay,
+    pack: reference::pack,
 };
 
 /// The names of the calls.
-pub const NAMES: [&str; 10] = [
+pub const NAMES: [&str; 11] = [
     "log_refusal",
     "vector",
     "upper_line",
@@ -76,6 +84,7 @@ pub const NAMES: [&str; 10] = [
     "step",
     "steps",
     "restore_and_replay",
+    "pack",
 ];
 
 /// What the calls on a log are given.
@@ -91,6 +100,8 @@ pub struct Arguments {
     pub list: Vec<u32>,
     /// How many words are lent for a line, for a plan, as totals and for the steps of the list.
     pub lent: [usize; 4],
+    /// How many bytes and words are lent for the packed log.
+    pub packed: (usize, usize),
 }
 
 /// The number of a call, then the words and the totals that it was lent.
@@ -107,18 +118,44 @@ fn given(
 }
 
 impl Arguments {
-    /// Arguments for a log of n workers, with as many words as are needed.
-    pub fn new(at: (u32, u32), state: State, list: Vec<u32>, n: usize) -> Arguments {
+    /// Arguments for a log, with as many words and bytes as are needed.
+    pub fn new(at: (u32, u32), state: State, list: Vec<u32>, log: &Log) -> Arguments {
+        let n = log.size();
         Arguments {
             at,
             identifier: 0,
             state,
             lent: [n, 3 * n, 4, list.len() * (n + 1)],
+            packed: (packed_length(log).min(MAX_LOG), 1),
             list,
         }
     }
 
-    /// What a call gives: its number, then the words and the totals that it was lent, but for scratch.
+    /// Arguments of any value for a log, most often such that they are not refused.
+    pub fn any(random: &mut Random, log: &[u8], accepted: &Log) -> Arguments {
+        let worker = worker(random, accepted);
+        let event = event(random, accepted, worker);
+        let any = State::any(random, accepted);
+        let planned = State::planned(log, worker, event).unwrap_or(any.clone());
+        let mut state = if random.chance(500) { planned } else { any };
+        if random.chance(100) {
+            state = state.edited(random);
+        }
+        // Each step of a list tests the whole log.
+        let list: Vec<u32> = (0..random.below(30).min(MOST_BYTES / log.len()))
+            .map(|_| random.below(accepted.size() + 1) as u32)
+            .collect();
+        let mut arguments = Arguments::new((worker, event), state, list, accepted);
+        arguments.identifier = random.below(12) as u32;
+        for lent in &mut arguments.lent {
+            *lent = length(random, *lent);
+        }
+        let (bytes, words) = arguments.packed;
+        arguments.packed = (length(random, bytes), length(random, words));
+        arguments
+    }
+
+    /// What a call gives: its number, then the words, the bytes and the totals that it was lent, but for scratch.
     pub fn answer(&self, name: &str, calls: &Calls, log: &[u8]) -> Vec<u64> {
         let [line, plan, ..] = self.lent;
         match name {
@@ -139,6 +176,7 @@ impl Arguments {
                 (calls.steps)(log, &self.state.plan, to, &self.list, answers)
             }),
             "restore_and_replay" => self.replay(calls.restore_and_replay, log),
+            "pack" => self.pack(calls.pack, log),
             other => panic!("there is no call {other}"),
         }
     }
@@ -185,5 +223,13 @@ impl Arguments {
                 totals,
             )
         })
+    }
+
+    fn pack(&self, call: Pack, log: &[u8]) -> Vec<u64> {
+        let (bytes, words) = self.packed;
+        let mut out = vec![7; bytes];
+        let mut given = given(0, words, |_, written| call(log, &mut out, written));
+        given.extend(out.into_iter().map(u64::from));
+        given
     }
 }

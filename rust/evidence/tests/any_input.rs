@@ -9,6 +9,8 @@ use evidence::runs::{any_log, any_repeating_log};
 
 /// The numbers that calls with a worker, an event and enough words or fewer can return.
 const ARGUMENTS: [u32; 4] = [0, 12, 13, 14];
+/// The numbers of a packing with enough bytes and words or fewer.
+const PACKINGS: [u32; 3] = [0, 14, 25];
 /// The numbers of states, edited ones too.
 const STATES: [u32; 4] = [16, 21, 22, 23];
 
@@ -29,6 +31,7 @@ fn small_valid_logs() {
     seen.has([15]);
     seen.has_replayed(ARGUMENTS);
     seen.has_replayed([15]);
+    seen.has_packed(PACKINGS);
 }
 
 #[test]
@@ -44,6 +47,7 @@ fn larger_valid_logs() {
     seen.has(STATES);
     seen.has_replayed(ARGUMENTS);
     seen.has_replayed([15]);
+    seen.has_packed(PACKINGS);
 }
 
 /// The numbers of a log as the header has its form: in form 2 only 24, in form 1 none.
@@ -64,6 +68,7 @@ fn logs_of_form_2_with_repeats() {
         seen.has(STATES);
         seen.has([24]);
         seen.has_replayed(ARGUMENTS);
+        seen.has_packed(PACKINGS);
     }
 }
 
@@ -84,6 +89,7 @@ fn damaged_logs() {
     seen.has([24]);
     seen.has_replayed(ARGUMENTS);
     seen.has_replayed([15]);
+    seen.has_packed(PACKINGS);
 }
 
 #[test]

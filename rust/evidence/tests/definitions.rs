@@ -1,12 +1,11 @@
 //! The reference against the definitions of document 01 and of form 2, taken literally, on small logs.
 
-use evidence::compare::{event, length, worker, State};
 use evidence::damage::damaged;
-use evidence::description::{set_form, Description, Worker};
+use evidence::description::{packed_length, set_form, Description, Worker};
 use evidence::failure::{words, Call, Difference, Meaning};
 use evidence::random::Random;
-use evidence::runs::{any_log, repeat_any, run, Shape};
-use evidence::sides::{Arguments, EXPORTED, NAMES, REFERENCE};
+use evidence::runs::{any_log, make_alike, repeat_any, run, Shape};
+use evidence::sides::{Arguments, Calls, EXPORTED, NAMES, REFERENCE};
 
 /// A log's content with the events that happened before each event, as bits.
 struct Model {
@@ -266,6 +265,8 @@ const WORDS: (&str, Meaning) = ("words", Meaning::Plain);
 const PLAN: (&str, Meaning) = ("words", Meaning::Plan);
 const POSITIONS: (&str, Meaning) = ("positions", Meaning::Plain);
 const ANSWER: (&str, Meaning) = ("answer", Meaning::Plain);
+const BYTES: (&str, Meaning) = ("out", Meaning::Plain);
+const WRITTEN: (&str, Meaning) = ("written", Meaning::Plain);
 const CUT_TOTALS: (&str, Meaning) = ("totals", Meaning::Named(&["visits", "workers word"]));
 const PLAN_TOTALS: (&str, Meaning) = (
     "totals",
@@ -531,30 +532,7 @@ fn two_receives_of_one_send_in_damaged_logs() {
     }
 }
 
-/// Arguments of any value for a log, most often such that they are not refused.
-fn any_arguments(random: &mut Random, log: &[u8]) -> Arguments {
-    let accepted = reference::accept(log).expect("an accepted log");
-    let n = accepted.size();
-    let worker = worker(random, &accepted);
-    let event = event(random, &accepted, worker);
-    let any = State::any(random, &accepted);
-    let planned = State::planned(log, worker, event).unwrap_or(any.clone());
-    let mut state = if random.chance(500) { planned } else { any };
-    if random.chance(100) {
-        state = state.edited(random);
-    }
-    let list: Vec<u32> = (0..random.below(30))
-        .map(|_| random.below(n + 1) as u32)
-        .collect();
-    let mut arguments = Arguments::new((worker, event), state, list, n);
-    arguments.identifier = random.below(12) as u32;
-    for lent in &mut arguments.lent {
-        *lent = length(random, *lent);
-    }
-    arguments
-}
-
-/// Cuts, plans and steps have the same definitions over both forms.
+/// Cuts, plans and steps have the same definitions over both forms. A packed log has the form of its log.
 #[test]
 fn both_forms_of_a_log() {
     let mut accepted = [0; NAMES.len()];
@@ -565,15 +543,89 @@ fn both_forms_of_a_log() {
         if reference::log_refusal(&two) == 24 {
             continue;
         }
-        let arguments = any_arguments(&mut random, &one);
+        let content = reference::accept(&one).expect("an accepted log");
+        let arguments = Arguments::any(&mut random, &one, &content);
         for calls in [EXPORTED, REFERENCE] {
             for (at, name) in NAMES.into_iter().enumerate() {
-                let [found, expected] = [&two, &one].map(|log| arguments.answer(name, &calls, log));
+                let [found, mut expected] =
+                    [&two, &one].map(|log| arguments.answer(name, &calls, log));
                 accepted[at] += u32::from(expected[0] == 0);
+                if name == "pack" && expected[0] == 0 {
+                    // The bytes are behind the number and the words, and the form is the first of them.
+                    expected[1 + arguments.packed.1] = 2;
+                }
                 let words = words(|index| format!("number or word {index}"), &found, &expected);
                 call(&random, &two, name, &[]).same([words]);
             }
         }
     }
     assert!(accepted.iter().all(|&times| times > 500), "{accepted:?}");
+}
+
+/// The packed log of an accepted log that 26 does not refuse.
+fn packed(random: &Random, calls: &Calls, log: &[u8]) -> Vec<u8> {
+    let accepted = reference::accept(log).expect("an accepted log");
+    let (mut out, mut written) = (vec![0; packed_length(&accepted)], [0]);
+    let number = (calls.pack)(log, &mut out, &mut written);
+    let pack = call(random, log, "pack", &[]);
+    pack.returned(number, 0);
+    pack.same([differ(WRITTEN, &written, &[out.len() as u64])]);
+    out
+}
+
+/// The packed log by its text, wherever the sections of the log are and whether they share bytes.
+#[test]
+fn logs_of_one_content() {
+    let mut moved = 0;
+    for round in 0..4_000 {
+        let mut random = Random::round(5, round);
+        let mut description = small(&mut random);
+        if random.chance(500) {
+            make_alike(&mut description, &mut random);
+        }
+        let form = match description.repeats() {
+            0 => random.pick(&[1, 2]),
+            _ => 1,
+        };
+        let expected = description.pack_as(form);
+        for log in [
+            expected.clone(),
+            description.lay_out(form, &mut random),
+            description.lay_out(form, &mut random),
+        ] {
+            moved += u32::from(log != expected);
+            for calls in [EXPORTED, REFERENCE] {
+                let found = packed(&random, &calls, &log);
+                call(&random, &log, "pack", &[]).same([differ(BYTES, &found, &expected)]);
+            }
+        }
+    }
+    assert!(moved > 5_000, "few logs are not packed: {moved}");
+}
+
+/// Packed logs are equal exactly when form, worker count, roles, events and checkpoints are.
+#[test]
+fn packed_logs_and_contents_are_equal_alike() {
+    let (mut alike, mut unlike) = (0, 0);
+    for round in 0..40_000 {
+        let mut random = Random::round(6, round);
+        let log = any_log(&mut random, 4, 26);
+        let other = damaged(&log, &mut random);
+        let [Ok(first), Ok(second)] = [&log, &other].map(|log| reference::accept(log)) else {
+            continue;
+        };
+        let [content, other_content] = [first, second].map(|log| (log.form, Description::of(&log)));
+        let equal = content == other_content;
+        for calls in [EXPORTED, REFERENCE] {
+            let [found, expected] = [&other, &log].map(|log| packed(&random, &calls, log));
+            call(&random, &other, "pack", &[]).holds((found == expected) == equal, || {
+                format!("that the contents are equal is {equal}, and of the packed logs it is not")
+            });
+        }
+        match equal {
+            true => alike += u32::from(log != other),
+            false => unlike += 1,
+        }
+    }
+    assert!(alike > 500 && unlike > 500, "{alike}, {unlike}");
 }

@@ -1,6 +1,7 @@
 //! The library's `Log` and `Replay` against the reference on seeded logs.
 
 use evidence::compare::State;
+use evidence::description::packed_length;
 use evidence::failure::{number, words, Call, Meaning};
 use evidence::random::Random;
 use evidence::runs::any_log;
@@ -96,4 +97,35 @@ fn one_event(random: &Random, bytes: &[u8], at: Breakpoint, list: &[u32]) -> u64
         format!("{done} steps of the list and {advanced} advances for {events} events")
     });
     advanced
+}
+
+#[test]
+fn packed_logs() {
+    for round in 0..1_000 {
+        let random = &mut Random::round(700, round);
+        let bytes = any_log(random, 8, 60);
+        let accepted = reference::accept(&bytes).expect("an accepted log");
+        let length = packed_length(&accepted);
+        let (mut expected, mut written) = (vec![0; length], [0]);
+        reference::pack(&bytes, &mut expected, &mut written);
+        let call = |name| Call {
+            name,
+            random,
+            log: &bytes,
+            arguments: &[],
+        };
+        let log = call("Log::new").accepted(Log::new(&bytes));
+        let packed = call("Log::packed").accepted(log.packed());
+        let same = |name, found: &[u8]| {
+            call(name).holds(found == expected, || "other bytes are packed".to_string());
+        };
+        same("Log::packed", &packed);
+        let mut out = vec![7; length + 9];
+        let found = call("Log::pack").accepted(log.pack(&mut out));
+        call("Log::pack").same([number("length", found as u32, written[0] as u32)]);
+        same("Log::pack", &out[..found]);
+        call("Log::pack").holds(out[length..] == [7; 9], || "a byte behind".to_string());
+        let short = log.pack(&mut out[..length - 1]);
+        call("Log::pack").holds(short == Err(Refusal::OutBytes), || format!("{short:?}"));
+    }
 }

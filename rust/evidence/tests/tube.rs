@@ -2,7 +2,8 @@
 
 use evidence::description::{set_form, Description, Event};
 use evidence::sides::{
-    Calls, Covers, CutTest, Line, RestoreAndReplay, Step, Steps, WithTotals, EXPORTED, REFERENCE,
+    Calls, Covers, CutTest, Line, Pack, RestoreAndReplay, Step, Steps, WithTotals, EXPORTED,
+    REFERENCE,
 };
 
 const TUBE: &[u8] = include_bytes!("../../restore-planner/examples/tube.log");
@@ -167,6 +168,23 @@ fn t10(log: &[u8], covers: Covers) {
     }
 }
 
+/// The tube log is packed, in 212 bytes. 25 comes before 14.
+fn packed(log: &[u8], pack: Pack) {
+    let (mut out, mut written) = ([9; 220], [9; 2]);
+    assert_eq!(pack(log, &mut out[..211], &mut written), 25);
+    assert_eq!(pack(log, &mut out[..211], &mut []), 25);
+    assert_eq!(pack(log, &mut out[..212], &mut []), 14);
+    assert_eq!((out, written), ([9; 220], [9; 2]));
+    assert_eq!(pack(log, &mut out[..212], &mut written[..1]), 0);
+    assert_eq!((&out[..212], &out[212..]), (log, &[9; 8][..]));
+    assert_eq!(written, [212, 9]);
+
+    let (mut out, mut written) = ([9; 220], [9; 2]);
+    assert_eq!(pack(log, &mut out, &mut written), 0);
+    assert_eq!((&out[..212], &out[212..]), (log, &[9; 8][..]));
+    assert_eq!(written, [212, 9]);
+}
+
 #[test]
 fn the_stored_bytes_are_the_described_log() {
     assert_eq!(TUBE.len(), 212);
@@ -188,6 +206,7 @@ fn values(calls: &Calls) {
         t10(log, calls.covers);
         list_of_steps(log, calls.steps);
         plan_and_steps(log, calls.restore_and_replay);
+        packed(log, calls.pack);
     }
 }
 

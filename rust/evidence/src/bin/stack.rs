@@ -6,7 +6,7 @@
 //! `stack CALL BYTES`: one try.
 
 use evidence::compare::State;
-use evidence::description::{worker_count, Description, MAX_EVENTS, MAX_WORKERS};
+use evidence::description::{Description, MAX_EVENTS, MAX_WORKERS};
 use evidence::runs::{add_falling, deep, different_sends, ring, shared_sends};
 use evidence::sides::{Arguments, EXPORTED, NAMES, REFERENCE};
 use std::process::{Command, ExitCode, Stdio};
@@ -38,7 +38,7 @@ fn arguments(log: &[u8], worker: usize) -> Arguments {
     let at = (worker as u32, accepted.workers[worker].count());
     let state = State::planned(log, at.0, at.1).expect("a plan");
     let list = vec![0, worker as u32, MAX_WORKERS as u32];
-    Arguments::new(at, state, list, worker_count(log))
+    Arguments::new(at, state, list, &accepted)
 }
 
 /// Makes a call on each log, on a thread with a stack of this many bytes.
@@ -51,7 +51,8 @@ fn try_call(call: &str, bytes: usize) {
             .stack_size(bytes)
             .spawn(move || given.answer(&name, &EXPORTED, &lent));
         let found = thread.expect("a thread").join().expect("an answer");
-        assert!(matches!(found[0], 0 | 21..=23), "{call}: {}", found[0]);
+        // 26: the log whose sends share bytes would be too long, packed.
+        assert!(matches!(found[0], 0 | 21..=23 | 26), "{call}: {}", found[0]);
         assert_eq!(found, arguments.answer(call, &REFERENCE, &log), "{call}");
     }
 }
