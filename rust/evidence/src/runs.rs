@@ -580,6 +580,56 @@ pub fn different_sends(
     first.iter().copied().chain(others).take(many).collect()
 }
 
+/// A log of a form whose workers have these numbers of events and of checkpoints and share the bytes of their sections: worker 0 receives
+/// the first sends of worker 1, all others have the first of one row of sends to worker 0, and all have the first of one row of
+/// checkpoints of index 0.
+pub fn shared_sections(form: u16, workers: &[(u32, u32)]) -> Vec<u8> {
+    let mut log = Description {
+        workers: vec![Worker::default(); workers.len()],
+    }
+    .pack_as(form);
+    let sends = log.len() as u32;
+    let most = workers.iter().skip(1).map(|&(events, _)| events).max();
+    log.extend((1..=most.unwrap_or(0)).flat_map(|stamp| Event::send(0, stamp).bytes()));
+    let receives = log.len() as u32;
+    for send in 1..=workers[0].0 {
+        let kind = if send % 3 == 0 { 3 } else { 2 };
+        log.extend(Event::receive(kind, 1, send, MAX_EVENTS + send).bytes());
+    }
+    let checkpoints = log.len() as u32;
+    let most = workers.iter().map(|&(_, checkpoints)| checkpoints).max();
+    let words = (1..=most.unwrap_or(0)).flat_map(|identifier| [0, identifier]);
+    log.extend(words.flat_map(u32::to_le_bytes));
+    for (w, &(events, many)) in workers.iter().enumerate() {
+        let entry = 8 + 20 * w;
+        put(&mut log, entry, events);
+        put(&mut log, entry + 4, if w == 0 { receives } else { sends });
+        put(&mut log, entry + 8, many);
+        put(&mut log, entry + 12, checkpoints);
+        put(&mut log, entry + 16, (w % 4) as u32);
+    }
+    let length = log.len() as u32;
+    put(&mut log, 4, length);
+    log
+}
+
+/// The numbers of events and of checkpoints of this many workers, about as many of each, that make a packed log of `length` bytes: a
+/// multiple of 4 above 8,220 for each worker.
+pub fn counts_of_length(workers: usize, length: usize) -> Vec<(u32, u32)> {
+    // An event is 3 times 4 bytes, a checkpoint 2 times, and an entry 5 times.
+    let rest = (length - 8) / 4 - 5 * workers;
+    let most = 1_024 * workers;
+    let checkpoints = (0..3)
+        .map(|k| most - k)
+        .find(|many| (rest - 2 * many).is_multiple_of(3));
+    let checkpoints = checkpoints.expect("one of three numbers that follow each other");
+    let events = (rest - 2 * checkpoints) / 3;
+    let share = |many: usize, w: usize| ((many + w) / workers) as u32;
+    (0..workers)
+        .map(|w| (share(events, w), share(checkpoints, w)))
+        .collect()
+}
+
 /// A log of the most workers and close to 4 MiB.
 pub fn widest(random: &mut Random) -> Description {
     let events = (MAX_LOG - 8 - MAX_WORKERS * (20 + 60 * 8)) / 12 - MAX_WORKERS * 30;

@@ -1,9 +1,9 @@
-//! The exported functions against the reference at the limits of document 01: workers, events, checkpoints, bytes; and repeats there,
-//! which form 2 does not allow.
+//! The exported functions against the reference at the limits of document 01: workers, events, checkpoints, bytes; repeats there,
+//! which form 2 does not allow; and the longest packed logs.
 
 use evidence::compare::{
-    every_call, is_refused_by, lower_cut, plan, restore_and_replay, step, steps, upper_line,
-    vector, Lengths, Replayed, Room, Seen, State,
+    every_call, is_refused_by, lower_cut, pack_gives, packed, plan, restore_and_replay, step,
+    steps, upper_line, vector, Lengths, Replayed, Room, Seen, State,
 };
 use evidence::description::{
     get, put, worker_count, Description, Event, Worker, MAX_EVENTS, MAX_LOG, MAX_WORKERS,
@@ -12,8 +12,8 @@ use evidence::description::{
 use evidence::failure::Call;
 use evidence::random::Random;
 use evidence::runs::{
-    chain, deep, different_sends, hub, ring, run, shared_sends, shuffled, two_level_hub, widest,
-    Shape,
+    chain, counts_of_length, deep, different_sends, hub, ring, run, shared_sections, shared_sends,
+    shuffled, two_level_hub, widest, Shape,
 };
 
 /// The most events that the steps of a list together test in a call of `restore_and_replay`: each tests the whole log.
@@ -482,6 +482,8 @@ fn more_than_four_million_events_that_share_bytes() {
         };
         at(27, &accepted, 0);
         at(28, &repeating, 24);
+        packs_by(&accepted, &[((MAX_LOG, 1), 26), ((0, 0), 26)]);
+        packs_by(&repeating, &[((MAX_LOG, 1), 24), ((0, 0), 24)]);
     }
 }
 
@@ -528,4 +530,124 @@ fn events_that_share_bytes_around_powers_of_two() {
             }
         }
     }
+}
+
+/// Compares packings of a log, each with this many bytes and words lent, with the number that it has to have.
+fn packs_by(log: &[u8], cases: &[((usize, usize), u32)]) {
+    let mut random = Random::new(30);
+    for &(lent, number) in cases {
+        pack_gives(&mut random, log, lent, number);
+    }
+}
+
+/// Compares packings of a log whose packed log has this many bytes, and the packed log with the log. Gives the packed log.
+fn packs_to(log: &[u8], length: usize) -> Vec<u8> {
+    packs_by(
+        log,
+        &[
+            ((length, 1), 0),
+            ((length, 3), 0),
+            ((length, 0), 14),
+            ((length + 9, 1), 0),
+            ((length + 9, 0), 14),
+            ((length - 1, 1), 25),
+            ((length - 1, 0), 25),
+            ((0, 2), 25),
+            ((0, 0), 25),
+        ],
+    );
+    let accepted = reference::accept(log).expect("an accepted log");
+    let packed = packed(&mut Random::new(31), log, &accepted);
+    assert_eq!(packed.len(), length);
+    packed
+}
+
+#[test]
+fn sections_that_share_bytes_make_the_longest_packed_log() {
+    for workers in [6, 7, 33, MAX_WORKERS] {
+        let counts = counts_of_length(workers, MAX_LOG);
+        for form in [1, 2] {
+            let log = shared_sections(form, &counts);
+            is_refused(&log, 0);
+            assert!(log.len() < MAX_LOG / 2);
+            let packed = packs_to(&log, MAX_LOG);
+            is_refused(&packed, 0);
+            assert_eq!(packed[..2], form.to_le_bytes());
+        }
+    }
+    let log = shared_sections(2, &counts_of_length(MAX_WORKERS, MAX_LOG));
+    often(&log, 32, 1);
+    at_events(&log, 0, &[1, get(&log, 8)]);
+}
+
+/// 26 comes after the numbers of the log, 24 too, and before 25 and 14.
+#[test]
+fn sections_that_share_bytes_make_a_packed_log_of_4_bytes_too_many() {
+    let lent = [(0, 0), (0, 1), (MAX_LOG, 0), (MAX_LOG, 1), (MAX_LOG + 4, 1)];
+    for workers in [6, 7, 33, MAX_WORKERS] {
+        let counts = counts_of_length(workers, MAX_LOG + 4);
+        for form in [1, 2] {
+            let mut log = shared_sections(form, &counts);
+            is_refused(&log, 0);
+            packs_by(&log, &lent.map(|lent| (lent, 26)));
+            // The last receive of worker 0 is of the send that its first one receives.
+            let last = (get(&log, 12) + 12 * (counts[0].0 - 1)) as usize;
+            put(&mut log, last + 4, 1);
+            let number = if form == 1 { 26 } else { 24 };
+            packs_by(&log, &lent.map(|lent| (lent, number)));
+            // The first checkpoint has identifier 0.
+            let first = get(&log, 20) as usize;
+            put(&mut log, first + 4, 0);
+            packs_by(&log, &lent.map(|lent| (lent, 11)));
+        }
+    }
+    let log = shared_sections(1, &counts_of_length(MAX_WORKERS, MAX_LOG + 4));
+    often(&log, 33, 2);
+    at_events(&log, 0, &[1, get(&log, 8)]);
+}
+
+/// Packed logs of a few bytes more or less than the most, of any number of workers.
+#[test]
+fn packed_logs_around_the_most_bytes() {
+    for round in 0..40 {
+        let mut random = Random::round(34, round);
+        let length = MAX_LOG - 12 + 4 * random.below(7);
+        let counts = counts_of_length(random.within(6, MAX_WORKERS), length);
+        let log = shared_sections(random.pick(&[1, 2]), &counts);
+        let number = if length > MAX_LOG { 26 } else { 0 };
+        packs_by(
+            &log,
+            &[((MAX_LOG, 1), number), ((length - 1, 1), number.max(25))],
+        );
+    }
+}
+
+#[test]
+fn packed_logs_without_events_or_checkpoints() {
+    let checkpoints: Vec<(u32, u32)> = (1..=1_024).map(|k| (0, k)).collect();
+    for workers in [1, 2, LAST, MAX_WORKERS] {
+        for form in [1, 2] {
+            let mut description = Description {
+                workers: vec![Worker::default(); workers],
+            };
+            let header = 8 + 20 * workers;
+            let log = description.pack_as(form);
+            assert_eq!(packs_to(&log, header), log);
+            for (many, w) in [0, workers - 1].into_iter().enumerate() {
+                description.workers[w].checkpoints = checkpoints.clone();
+                let sections = if workers == 1 { 1 } else { many + 1 };
+                let log = description.pack_as(form);
+                assert_eq!(packs_to(&log, header + 8 * 1_024 * sections), log);
+                let moved = description.lay_out(form, &mut Random::new(35));
+                assert_eq!(packs_to(&moved, header + 8 * 1_024 * sections), log);
+            }
+        }
+    }
+    let log = run(&Shape::long(MAX_WORKERS, 3_000), &mut Random::new(36));
+    let mut without = log.clone();
+    for worker in &mut without.workers {
+        worker.checkpoints.clear();
+    }
+    let log = without.pack();
+    assert_eq!(packs_to(&log, 8 + 20 * MAX_WORKERS + 12 * 3_000), log);
 }
