@@ -262,6 +262,23 @@ impl Description {
         Description::finish(log)
     }
 
+    /// The log of form 1 with the sections of [`Description::pack`] in the opposite order, each behind a gap of 5 bytes.
+    pub fn reversed(&self) -> Vec<u8> {
+        let mut log = self.start(1);
+        for (w, worker) in self.workers.iter().enumerate().rev() {
+            for (field, bytes) in [
+                (20 + 20 * w, worker.checkpoint_bytes()),
+                (12 + 20 * w, worker.event_bytes()),
+            ] {
+                log.extend([0xff; 5]);
+                let offset = log.len() as u32;
+                put(&mut log, field, offset);
+                log.extend(bytes);
+            }
+        }
+        Description::finish(log)
+    }
+
     /// The log of a form with its sections in any order, with gaps of any bytes, and sharing bytes where a section's bytes are there
     /// already.
     pub fn lay_out(&self, form: u16, random: &mut Random) -> Vec<u8> {

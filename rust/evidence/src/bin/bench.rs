@@ -5,13 +5,14 @@
 //! The three are run in turn, and each time is the least of many. Where logs are short, some twenty of them are gone through in turn,
 //! since the processor learns the branches of one that is read again and again. The lent words are not cleared between runs; a call of
 //! the exported function and one of the reference have their own. Every call tests the whole log, so each ratio has that in it.
+//! The logs are packed; `pack_moved` is the packing of the same logs with their sections in the opposite order and gaps between them.
 //!
 //! At the end the test of the log and the plan are timed on form 2 beside form 1 of the same logs, in the same place in memory;
-//! `cargo run --release --bin bench forms` times nothing else.
+//! `cargo run --release --bin bench forms` times nothing else, and `bench pack` only the calls whose names begin so.
 
 use evidence::compare::State;
 use evidence::description::{
-    set_form, Description, MAX_EVENTS, MAX_WORKERS, PLAN_WORDS, SCRATCH_WORDS,
+    set_form, Description, MAX_EVENTS, MAX_LOG, MAX_WORKERS, PLAN_WORDS, SCRATCH_WORDS,
 };
 use evidence::random::Random;
 use evidence::runs::{
@@ -24,6 +25,8 @@ use std::time::{Duration, Instant};
 /// A log with the arguments of the calls on it.
 struct Case {
     log: Vec<u8>,
+    /// The log with its sections in the opposite order; empty for a log that is not packed.
+    moved: Vec<u8>,
     events: usize,
     /// The breakpoint: the last event of a worker.
     worker: u32,
@@ -63,6 +66,14 @@ impl Case {
             cut,
             identifier: identifier.unwrap_or(0),
             log,
+            moved: Vec::new(),
+        }
+    }
+
+    fn packed(description: &Description, worker: usize) -> Case {
+        Case {
+            moved: description.reversed(),
+            ..Case::new(description.pack(), worker)
         }
     }
 }
@@ -77,7 +88,7 @@ struct Input {
 fn one(name: &str, description: &Description, worker: usize) -> Input {
     Input {
         name: name.to_string(),
-        cases: vec![Case::new(description.pack(), worker)],
+        cases: vec![Case::packed(description, worker)],
     }
 }
 
@@ -89,7 +100,7 @@ fn runs(name: &str, shape: &Shape) -> Input {
         cases: seeds
             .map(|seed| {
                 let mut random = Random::round(shape.events as u64, seed);
-                Case::new(run(shape, &mut random).pack(), 0)
+                Case::packed(&run(shape, &mut random), 0)
             })
             .collect(),
     }
@@ -154,6 +165,7 @@ struct Words {
     totals: Vec<u64>,
     positions: Vec<u32>,
     answers: Vec<u32>,
+    out: Vec<u8>,
 }
 
 impl Words {
@@ -165,6 +177,7 @@ impl Words {
             totals: vec![0; 4],
             positions: vec![0; MAX_WORKERS],
             answers: vec![0; longest.unwrap_or(0) + 1],
+            out: vec![0; MAX_LOG],
         }
     }
 
@@ -229,13 +242,13 @@ fn measure(input: &Input, exported: Call, reference: Call) -> Times {
         rounds += 1;
     }
     // Read, so that what the calls wrote is wanted.
-    black_box((a.words, a.scratch, a.totals, a.positions, a.answers));
-    black_box((b.words, b.scratch, b.totals, b.positions, b.answers));
+    black_box((a.words, a.scratch, a.totals, a.positions, a.answers, a.out));
+    black_box((b.words, b.scratch, b.totals, b.positions, b.answers, b.out));
     best
 }
 
 /// Each call by its name, exported and of the reference.
-const CALLS: [(&str, Call, Call); 9] = [
+const CALLS: [(&str, Call, Call); 11] = [
     (
         "log_refusal",
         |c, _| calls::log_refusal(&c.log),
@@ -325,6 +338,16 @@ const CALLS: [(&str, Call, Call); 9] = [
             reference::steps(&c.log, &c.state.plan, positions, &c.list, answers)
         },
     ),
+    (
+        "pack",
+        |c, to| calls::pack(&c.log, &mut to.out, &mut to.totals),
+        |c, to| reference::pack(&c.log, &mut to.out, &mut to.totals),
+    ),
+    (
+        "pack_moved",
+        |c, to| calls::pack(&c.moved, &mut to.out, &mut to.totals),
+        |c, to| reference::pack(&c.moved, &mut to.out, &mut to.totals),
+    ),
 ];
 
 fn micros(time: Duration) -> f64 {
@@ -383,14 +406,19 @@ fn print_input(input: &Input) -> (f64, f64) {
 
 fn main() {
     println!("machine: {}", machine());
-    if std::env::args().nth(1).as_deref() != Some("forms") {
-        print_calls();
+    match std::env::args().nth(1).as_deref() {
+        None => {
+            print_guard(&print_calls(""));
+            print_forms();
+        }
+        Some("forms") => print_forms(),
+        Some(start) => drop(print_calls(start)),
     }
-    print_forms();
 }
 
-/// Prints each call on each input, and what the rows say together.
-fn print_calls() {
+/// Prints each call whose name begins so on each input, and the largest ratios. Gives for each input its name, its events and the
+/// nanoseconds an event that the test of the log takes.
+fn print_calls(start: &str) -> Vec<(String, f64, f64)> {
     println!("exported, reference, pass: microseconds, the least of many runs; pass is the sum of the log's bytes");
     println!("exp/pass: nanoseconds an event over those of the plain pass");
     println!("growth: time over that of the same call on the family's next smaller log, divided by the growth in bytes (1.00: linear)");
@@ -402,7 +430,8 @@ fn print_calls() {
         for input in family {
             let (bytes, events) = print_input(&input);
             let mut rows = Vec::new();
-            for (at, &(call, exported, reference)) in CALLS.iter().enumerate() {
+            let named = CALLS.iter().filter(|(call, ..)| call.starts_with(start));
+            for (at, &(call, exported, reference)) in named.enumerate() {
                 let times = measure(&input, exported, reference);
                 let own = micros(times.exported);
                 let ratio = own / micros(times.reference);
@@ -420,7 +449,7 @@ fn print_calls() {
                     own / micros(times.pass),
                     own * 1e3 / events,
                 );
-                if at == 0 {
+                if call == "log_refusal" {
                     accepting.push((input.name.clone(), events, own * 1e3 / events));
                 }
                 let name = format!("{}, {events:.0} events", input.name);
@@ -440,7 +469,7 @@ fn print_calls() {
     for (call, ratio, name) in worst {
         println!("  {call:<12} {ratio:>6.2}  {name}");
     }
-    print_guard(&accepting);
+    accepting
 }
 
 /// The test of the log on a run over that on a ring of about as many events: 1 where it has no branch that a run makes unpredictable.
