@@ -5,6 +5,8 @@ use Prim.Native.Nat.{ℕ, _+_, _*_, _<_, _≤_}
 use native.Mathlib.Nat.{le-antisymm}
 use native.Mathlib.Omega.{arith}
 use lib.ListN.{length, length-append}
+use mir.Syntax.{w64}
+use mir.Val.{Fits}
 use Rattle.ranges.specs.Fold.{joinBelow}
 use Rattle.ranges.proofs.Join.{join-none, join-more, length-join}
 use Rattle.ranges.proofs.Sum.{sum-none, sum-more, sum-grows, sum-bound}
@@ -15,10 +17,11 @@ use Rattle.bytes_le.specs.Little.{bytesOf, Bytes}
 use Rattle.bytes_le.proofs.Little.{length-bytes}
 use Rattle.log.specs.Model.{Log, Workers, workerCount}
 use Rattle.log.specs.Header.{layoutRefusal}
-use Rattle.log.specs.Limits.{maxWorkers, maxEvents, maxCheckpoints}
+use Rattle.log.specs.Limits.{maxLength, maxWorkers, maxEvents, maxCheckpoints}
 use Rattle.log.specs.Layout.{headerOf, eventSize, checkpointSize, eventSection, checkpointSection, workersOf}
 use Rattle.log.proofs.Read.{workers-few, count-field, checkpoints-field}
 use Rattle.pack.specs.Packed.{sectionsOf, sectionsSize, startOf, entryOf, packedLength, fieldsOf, packed}
+use Rattle.pack.specs.Inner.Room.{Room}
 use Rattle.pack.proofs.Records.{events-long, checkpoints-long, sections-bytes, sections-long}
 use Rattle.pack.proofs.Header.{fields-long, header-long}
 
@@ -80,12 +83,20 @@ module _ (s : List ℕ) (ok : layoutRefusal s ≡ 0) where
   unfolding sectionsSize
   size-small w = let events = count-field s ok w .1 in let checkpoints = checkpoints-field s ok w .1 in omega arith
 
-  pub start-small : (w : ℕ) → startOf (workersOf s) w ≤ headerOf maxWorkers + w * mostBytes
+  start-small : (w : ℕ) → startOf (workersOf s) w ≤ headerOf maxWorkers + w * mostBytes
   unfolding startOf
   start-small w =
       let few = workers-few s ok in
       let bound = sum-bound (sectionsSize (workersOf s)) w mostBytes (λ k h. size-small k) in
       omega arith
+
+  -- .. so the start of the next worker's sections fits a `usize`
+  pub next-fits : {w start size : ℕ} → w < workerCount (workersOf s) → start ≡ startOf (workersOf s) w → size ≡ sectionsSize (workersOf s) w → Fits w64 (start + size)
+  next-fits {w} h place long =
+      let few = workers-few s ok in
+      let bound = start-small (w + 1) in
+      let next = start-next (workersOf s) w in
+      record { fits = omega arith }
 
   -- the sections of worker w begin where those written before them end
   pub sections-before : Bytes s → (w : ℕ) → w ≤ workerCount (workersOf s)
@@ -101,13 +112,23 @@ module _ (s : List ℕ) (ok : layoutRefusal s ≡ 0) where
     pub parts-end : startOf (workersOf s) w + length (eventSection s w) + length (checkpointSection s w) ≡ startOf (workersOf s) (w + 1)
     parts-end = let long = parts-long in let next = start-next (workersOf s) w in omega arith
 
-    pub parts-within : startOf (workersOf s) w + length (eventSection s w) + length (checkpointSection s w) ≤ packedLength (workersOf s)
-    parts-within = let end = parts-end in let within = start-within (workersOf s) (w + 1) (omega arith) in omega arith
-
     -- the events and then the checkpoints right behind them
     pub sections-copied : Bytes s → (at : ℕ) (out : List ℕ) → at ≤ length out
         → overwrite (at + length (eventSection s w)) (checkpointSection s w) (overwrite at (eventSection s w) out) ≡ overwrite at (sectionsOf (workersOf s) w) out
     sections-copied all at out fits = rw (sections-bytes s ok w h all) (overwrite-more at out (eventSection s w) (checkpointSection s w) fits)
+
+-- ---- a log whose packed log has room
+-- as much as in another number of bytes that is the same
+pub room-same : {s : List ℕ} {lent now : ℕ} → Room s lent → now ≡ lent → Room s now
+room-same room same = record { layout = room .layout; fits = room .fits; enough = rw same (room .enough) }
+
+-- the sections of worker w, which begin at `start`, end within the longest log and within the bytes lent
+pub parts-room : {s : List ℕ} {lent w start : ℕ} → Room s lent → w < workerCount (workersOf s) → start ≡ startOf (workersOf s) w
+    → (start + length (eventSection s w) + length (checkpointSection s w) ≤ maxLength) × (start + length (eventSection s w) + length (checkpointSection s w) ≤ lent)
+parts-room {s} {lent} {w} room h place =
+    let end = parts-end s (room .layout) w h in
+    let within = start-within (workersOf s) (w + 1) (omega arith) in
+    (omega (arith, room .fits), omega (arith, room .enough))
 
 -- ---- the fields before the entries, written one by one
 pub fields-written : (log : Log) (out : List ℕ)

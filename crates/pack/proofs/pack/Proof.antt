@@ -6,7 +6,7 @@ use Rattle.log.specs.Layout.{logOf}
 use Rattle.pack.specs.Packed.{packed}
 use Rattle.pack.specs.Calls.{packAnswer}
 use Rattle.pack.proofs.Allowed.{pack-ok}
-use Rattle.pack.proofs.Writing.{packed-written}
+use Rattle.pack.proofs.Writing.{room-same, packed-written}
 use borrow.Author.Needs.{needs}
 use Rattle.pack.proofs.pack.Statement.{statement}
 use Rattle.pack.proofs.pack.Tie as tie
@@ -26,15 +26,14 @@ write-entries-requires : tie.Need-write-entries-requires
 write-entries-requires c κs =
     let wrote = c .before .before .before in
     let asked = wrote .before .before .before .before in
-    let room = pack-ok (asked .pack-refusal .ensures) (wrote .before .before .before .if1 .left) .room in
-    record { layout = room .layout; fits = room .fits; enough = rw (c .before .before .out .given) (room .enough) }
+    room-same (pack-ok (asked .pack-refusal .ensures) (wrote .before .before .before .if1 .left) .room) (c .before .before .out .given)
 
 write-sections-requires : tie.Need-write-sections-requires
 write-sections-requires c κs =
     let wrote = c .before .before .before .before .before .before .before in
     let asked = wrote .before .before .before .before in
-    let room = pack-ok (asked .pack-refusal .ensures) (wrote .before .before .before .if1 .left) .room in
-    record { layout = room .layout; fits = room .fits; enough = rw (c .before .before .out2 .given, c .before .before .before .before .before .before .out .given) (room .enough) }
+    room-same (pack-ok (asked .pack-refusal .ensures) (wrote .before .before .before .if1 .left) .room)
+    (c .before .before .out2 .given ∙ c .before .before .before .before .before .before .out .given)
 
 returns-2 : tie.Need-returns-2
 unfolding packAnswer

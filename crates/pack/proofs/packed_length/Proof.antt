@@ -1,12 +1,12 @@
 -- `pack::packed_length` meets its contract. Assumes nothing.
 use mathlib.Core.Path.{_≡_, sym, _∙_}
-use Prim.Native.Nat.{_+_, _≤_, _-_}
+use Prim.Native.Nat.{_≤_, _-_}
 use native.Mathlib.Omega.{arith}
 use native.Mathlib.Nat.{le-antisymm}
 use borrow.Author.Needs.{needs}
 use Rattle.log.specs.Layout.{workersOf}
 use Rattle.pack.specs.Packed.{startOf, packedLength}
-use Rattle.pack.proofs.Writing.{start-first, start-next, start-small}
+use Rattle.pack.proofs.Writing.{start-first, start-next, next-fits}
 use Rattle.pack.proofs.packed_length.Statement.{statement}
 use Rattle.pack.proofs.packed_length.Tie as tie
 
@@ -29,11 +29,9 @@ sections-size-requires c κs =
 
 add-at : tie.Need-add-at Inv-loop μ-loop
 add-at c =
-    let start = c .before .before .before .before .before .before in
-    let bound = start-small _ (start .pre) (c .before .before .loop .w) in
-    let next = start-small _ (start .pre) (c .before .before .loop .w + 1) in
-    let more = start-next (workersOf (start .args .log .now)) (c .before .before .loop .w) in
-    omega (arith, c .sections-size .ensures, c .before .before .before .before .worker-count .ensures .1, c .before .before .loop .inv .1)
+    let turn = c .before .before in
+    let start = turn .before .before .before .before in
+    next-fits _ (start .pre) (rw (turn .before .before .worker-count .ensures .0) at (c .before .loop-test .taken)) (turn .loop .inv .1) (c .sections-size .ensures)
 
 add-w : tie.Need-add-w Inv-loop μ-loop
 add-w c = omega (arith, c .before .before .before .before .worker-count .ensures .1)

@@ -1,12 +1,12 @@
 -- `pack::write_entries` meets its contract. Assumes nothing.
 use mathlib.Core.Path.{_≡_, sym, _∙_}
-use Prim.Native.Nat.{_+_, _-_}
+use Prim.Native.Nat.{_-_}
 use native.Mathlib.Omega.{arith}
 use borrow.Author.Needs.{needs}
 use Rattle.log.specs.Layout.{headerOf, workersOf}
 use Rattle.pack.specs.Packed.{startOf, entryOf}
 use Rattle.pack.proofs.Header.{entries-long}
-use Rattle.pack.proofs.Writing.{Written, written-none, written-more, written-end, start-first, start-next, start-small, header-within}
+use Rattle.pack.proofs.Writing.{Written, written-none, written-more, written-end, room-same, start-first, start-next, next-fits, header-within}
 use Rattle.pack.proofs.write_entries.Statement.{statement}
 use Rattle.pack.proofs.write_entries.Tie as tie
 
@@ -29,7 +29,7 @@ write-entry-requires : tie.Need-write-entry-requires Inv-loop μ-loop
 write-entry-requires c κs =
     let turn = c .before .before in
     let start = turn .before .before .before .before .before in (
-      record { layout = start .pre .layout; fits = start .pre .fits; enough = rw (turn .loop .inv .1 .long) (start .pre .enough) },
+      room-same (start .pre) (turn .loop .inv .1 .long),
       rw (turn .before .before .worker-count .ensures .0) at (c .before .loop-test .taken),
       turn .loop .inv .0,
     )
@@ -43,9 +43,8 @@ add-start : tie.Need-add-start Inv-loop μ-loop
 add-start c =
     let turn = c .before .before .before .before .before .before in
     let start = turn .before .before .before .before .before in
-    let next = start-small _ (start .pre .layout) (turn .loop .w + 1) in
-    let more = start-next (workersOf (start .args .log .now)) (turn .loop .w) in
-    omega (arith, c .sections-size .ensures, turn .before .before .worker-count .ensures .1, turn .loop .inv .0)
+    next-fits _ (start .pre .layout) (rw (turn .before .before .worker-count .ensures .0) at (c .before .before .before .before .before .loop-test .taken))
+    (turn .loop .inv .0) (c .sections-size .ensures)
 
 add-w : tie.Need-add-w Inv-loop μ-loop
 add-w c = omega (arith, c .before .before .before .before .before .before .before .before .worker-count .ensures .1)

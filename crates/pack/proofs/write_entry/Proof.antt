@@ -6,27 +6,27 @@ use Rattle.log.specs.Layout.{workersOf}
 use Rattle.log.proofs.Read.{workers-few}
 use Rattle.pack.specs.Packed.{numbersOf, entryOf}
 use Rattle.pack.proofs.Records.{events-long}
-use Rattle.pack.proofs.Writing.{header-within, parts-within}
+use Rattle.pack.proofs.Writing.{header-within, parts-room}
 use Rattle.pack.proofs.write_entry.Statement.{statement}
 use Rattle.pack.proofs.write_entry.Tie as tie
 
 add-behind : tie.Need-add-behind
 add-behind c =
     let start = c .before .before .before in
-    let within = parts-within (start .args .log .now) (start .pre .0 .layout) (start .args .w) (start .pre .1) in
-    rw (c .events-part .ensures) (omega (arith, start .pre .0 .fits, start .pre .2))
+    let room = parts-room (start .pre .0) (start .pre .1) (start .pre .2) in
+    rw (c .events-part .ensures) (omega (arith, room .0))
 
 cast-t10 : tie.Need-cast-t10
 cast-t10 c =
     let start = c .before .before .before .before in
-    let within = parts-within (start .args .log .now) (start .pre .0 .layout) (start .args .w) (start .pre .1) in
-    omega (arith, start .pre .0 .fits, start .pre .2)
+    let room = parts-room (start .pre .0) (start .pre .1) (start .pre .2) in
+    omega (arith, room .0)
 
 cast-t12 : tie.Need-cast-t12
 cast-t12 c =
     let start = c .before .before .before .before .before in
-    let within = parts-within (start .args .log .now) (start .pre .0 .layout) (start .args .w) (start .pre .1) in
-    rw (c .before .before .events-part .ensures) (omega (arith, start .pre .0 .fits, start .pre .2))
+    let room = parts-room (start .pre .0) (start .pre .1) (start .pre .2) in
+    rw (c .before .before .events-part .ensures) (omega (arith, room .0))
 
 cast-header-of : tie.Need-cast-header-of
 cast-header-of c =

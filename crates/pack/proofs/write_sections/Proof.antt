@@ -7,7 +7,7 @@ use Rattle.bytes_le.specs.Little.{Bytes}
 use Rattle.log.specs.Model.{workerCount}
 use Rattle.log.specs.Layout.{headerOf, workersOf}
 use Rattle.pack.specs.Packed.{startOf, sectionsOf}
-use Rattle.pack.proofs.Writing.{Written, written-none, written-more, written-end, start-first, header-within, sections-before}
+use Rattle.pack.proofs.Writing.{Written, written-none, written-more, written-end, room-same, start-first, header-within, sections-before}
 use Rattle.pack.proofs.write_sections.Statement.{statement}
 use Rattle.pack.proofs.write_sections.Tie as tie
 
@@ -31,7 +31,7 @@ copy-sections-requires : tie.Need-copy-sections-requires Inv-loop μ-loop
 copy-sections-requires c κs =
     let turn = c .before .before in
     let start = turn .before .before .before .before .before in (
-      record { layout = start .pre .layout; fits = start .pre .fits; enough = rw (turn .loop .inv .1 .long) (start .pre .enough) },
+      room-same (start .pre) (turn .loop .inv .1 .long),
       rw (turn .before .before .worker-count .ensures .0) at (c .before .loop-test .taken),
       turn .loop .inv .0,
     )
