@@ -483,7 +483,7 @@ pub fn column(e: Event) -> u32
     e.kind as u32 - 1
 }
 
-// A number above every index, for `unlogged_send`.
+// A number above every index.
 pub const NO_SEND: u32 = 4294967295;
 
 // The send that a receive without its data names, and `otherwise` for any other event: one comparison then serves every kind.

@@ -17,7 +17,7 @@ use Rattle.lower_cut.specs.Figure2.{turnIf, turn, visit, visitAt, beginning, fi
 use Rattle.causality.specs.Refusals.{workerRefusal, eventRefusal, breakpointRefusal}
 use Rattle.upper_line.specs.Upper.{happened, upperAt, upperLine}
 use Rattle.lower_cut.specs.Workers.{bitOf, workersWord}
-use Rattle.restore.specs.Choice.{mayChoose}
+use Rattle.restore.specs.Choice.{mayChoose, losesSend}
 use Rattle.restore.specs.Plan.{loses, workerLoses, someLoses, usable, indexIf, rolledBackAt, rolledBack, planStarts, standsAt, identifierOf, identifierAt, planWord, planWords}
 use Rattle.cost.specs.Words.{cutIn, startIn}
 use Rattle.cost.specs.Cost.{replayed, eventsOf, eventUnits, workerUnits, unitsOf, builtIn}
@@ -38,7 +38,7 @@ tubeText =
 computed : foundText (tubeLog .workers) 0 2 ≡ tubeText
 unfolding anyBelow maxBelow sumBelow firstBelow lastBelow tabulate sweep workerCount worker roleOf eventCount eventOf checkpointCount checkpointOf
     isSend isUnlogged isLogged isReceive namedOf component turnIf turn visit visitAt beginning figure2 happened upperAt upperLine bitOf workersWord
-    mayChoose loses workerLoses someLoses usable indexIf rolledBackAt rolledBack planStarts standsAt identifierOf identifierAt planWord planWords
+    mayChoose losesSend loses workerLoses someLoses usable indexIf rolledBackAt rolledBack planStarts standsAt identifierOf identifierAt planWord planWords
     cutIn startIn replayed eventsOf eventUnits workerUnits unitsOf builtIn spelled decimal withNumber fourNumbers breakpointLine processLine
     processLines foundText foundCut foundPlan
 computed = refl

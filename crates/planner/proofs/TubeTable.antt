@@ -12,7 +12,7 @@ use Rattle.accept.proofs.Tube.{tube-workers}
 use Rattle.causality.specs.Cut.{namedOf, component, vector, lacks, workerLacks, isConsistent}
 use Rattle.lower_cut.specs.Figure2.{turnIf, turn, visit, visitAt, beginning, figure2}
 use Rattle.upper_line.specs.Upper.{happened, upperAt, upperLine}
-use Rattle.restore.specs.Choice.{mayChoose}
+use Rattle.restore.specs.Choice.{mayChoose, losesSend}
 use Rattle.restore.specs.Plan.{loses, workerLoses, someLoses, usable, indexIf, rolledBackAt, rolledBack, planStarts}
 use Rattle.cost.specs.Cost.{replayed, eventsOf, eventUnits, workerUnits, unitsOf, builtIn}
 use Rattle.covering.specs.Covering.{isSet, withoutSet, indexOf, setIndex, uncovered, workerUncovered, coveringSet}
@@ -40,7 +40,7 @@ logged-model = refl
 computed : TubeTable (tubeLog .workers) logged
 unfolding anyBelow maxBelow sumBelow firstBelow lastBelow tabulate sweep workerCount worker roleOf eventCount eventOf checkpointCount checkpointOf
     isSend isUnlogged isLogged isReceive namedOf component vector lacks workerLacks isConsistent turnIf turn visit visitAt beginning figure2
-    happened upperAt upperLine mayChoose loses workerLoses someLoses usable indexIf rolledBackAt rolledBack planStarts replayed eventsOf
+    happened upperAt upperLine mayChoose losesSend loses workerLoses someLoses usable indexIf rolledBackAt rolledBack planStarts replayed eventsOf
     eventUnits workerUnits unitsOf builtIn isSet withoutSet indexOf setIndex uncovered workerUncovered coveringSet receiveAnswer eventAnswer
     answerOf
 computed =

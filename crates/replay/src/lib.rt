@@ -3,6 +3,7 @@
 pub mod list;
 
 use log::Event;
+use restore::choice::loses_send;
 ghost use mathlib.Core.Path.{_≡_};
 ghost use mathlib.Core.List.{List};
 ghost use Prim.Native.Nat.{ℕ, _+_, _*_, _<_, _≤_};
@@ -80,16 +81,16 @@ fn step_refusal(log: &[u8], words: &[u32], positions: &[u32], worker: u32) -> u3
     )
 }
 
-// The answer of a step to event e. The two comparisons are made for every kind: 0 is not awaited, and no start is as high as NO_SEND.
+// The answer of a step to event e. The first comparison is made for every kind: 0 is not awaited.
 fn event_answer(words: &[u32], positions: &[u32], e: Event) -> u32
-    requires { ⌜ (e .peer < length (now positions)) × (3 * e .peer + 3 ≤ length (now words)) × (startIn (now words) (e .peer) ≤ maxEvents) ⌝ }
+    requires { ⌜ (e .peer < length (now positions)) × (3 * e .peer + 3 ≤ length (now words)) ⌝ }
     ensures answer { λ r. ⌜ ((starts : List ℕ) → at starts (e .peer) ≡ startIn (now (words .entry)) (e .peer) → r ≡ eventAnswer starts (now (positions .entry)) e) ⌝ }
 {
     let peer = e.peer as usize;
     if positions[peer] < log::unlogged_send(e, 0) {
         return 22;
     }
-    if log::unlogged_send(e, log::NO_SEND) <= words[3 * peer + 1] {
+    if loses_send(e, words[3 * peer + 1]) {
         return 23;
     }
     0

@@ -7,7 +7,7 @@ use mathlib.Core.Logic.{_⊎_, inl, inr, ⊎-elim}
 use mathlib.Core.List.{List}
 use Prim.Native.Nat.{ℕ, _+_, _<_, _≤_}
 use native.Mathlib.Omega.{arith}
-use borrow.Author.Tests.{le-leb, leb-true, leb-false, eqb-true, eq-eqb, not-true}
+use borrow.Author.Tests.{le-leb, leb-true, eqb-true, eq-eqb, not-true}
 use lib.Dec.{leb, eqb}
 use lib.ListN.{length, List·getD-eq-default}
 use Rattle.ranges.proofs.Order.{lt-or-le}
@@ -21,10 +21,10 @@ use Rattle.log.proofs.Read.{worker-within, checkpoint-initial}
 use Rattle.accept.specs.WellFormed.{WellFormed}
 use Rattle.lent.specs.Lent.{at}
 use Rattle.causality.specs.Cut.{Within, IsCut}
-use Rattle.restore.specs.Choice.{mayChoose}
+use Rattle.restore.specs.Choice.{mayChoose, losesSend}
 use Rattle.restore.specs.Plan.{loses, workerLoses, someLoses, usable, indexIf, rolledBackAt, rolledBack}
 use Rattle.restore.proofs.Choosable.{may-below, may-initial}
-use Rattle.restore.proofs.Startable.{unlogged-receive}
+use Rattle.restore.proofs.Startable.{unlogged-receive, lost-send, keeps-send}
 use Rattle.restore.proofs.Chosen.{AreStarts}
 
 -- worker v, started at index x, can send again what every worker needs
@@ -44,7 +44,7 @@ module _ (log : Workers) (cut : List ℕ) (isCut : IsCut log cut) (starts : List
   lost-false v x none w k after inside unlogged peer =
       let here = worker-within log w k (omega (arith, isCut .within w)) in
       let event = any-each (loses log starts v x w) (at cut w) (any-each (workerLoses log cut starts v x) (workerCount log) none w here) k inside in
-      leb-false (eventOf log w (k + 1) .send) x (rw (le-leb (at starts w) k after, unlogged, eq-eqb (eventOf log w (k + 1) .peer) v peer) at event)
+      keeps-send (eventOf log w (k + 1)) x (rw (le-leb (at starts w) k after, eq-eqb (eventOf log w (k + 1) .peer) v peer) at event) unlogged
 
   loses-false : (v x : ℕ) → Keeps log cut starts v x → (w k : ℕ) → k < at cut w → loses log starts v x w k ≡ false
   unfolding loses
@@ -56,24 +56,16 @@ module _ (log : Workers) (cut : List ℕ) (isCut : IsCut log cut) (starts : List
       after : Bool
       after = leb (at starts w) k
 
-      unlogged : Bool
-      unlogged = isUnlogged e
-
       peer : Bool
       peer = eqb (e .peer) v
 
-      send : Bool
-      send = leb (e .send) x
-
-      go : (b : Bool) → (after && unlogged && peer && send) ≡ b → b ≡ false
+      go : (b : Bool) → (after && peer && losesSend e x) ≡ b → b ≡ false
       go false q = refl
       go true q =
-          let three = and-true-left (after && unlogged && peer) send q in
-          let two = and-true-left (after && unlogged) peer three in
-          let more = keeps w k (leb-true (at starts w) k (and-true-left after unlogged two)) inside (and-true-right after unlogged two)
-          (eqb-true (e .peer) v (and-true-right (after && unlogged) peer three)) in
-          let less = leb-true (e .send) x (and-true-right (after && unlogged && peer) send q) in
-          let no : ⊥ = omega arith in absurd no
+          let two = and-true-left (after && peer) (losesSend e x) q in
+          let lost = lost-send e x (and-true-right (after && peer) (losesSend e x) q) in
+          let more = keeps w k (leb-true (at starts w) k (and-true-left after peer two)) inside (lost .unlogged) (eqb-true (e .peer) v (and-true-right after peer two)) in
+          let no : ⊥ = omega (arith, lost .low) in absurd no
 
   lost-none : (v x : ℕ) → Keeps log cut starts v x → someLoses log cut starts v x ≡ false
   unfolding someLoses workerLoses

@@ -3,12 +3,11 @@
 -- Assumes nothing.
 use mathlib.Core.Path.{_≡_, refl, sym, _∙_, ap, subst}
 use mathlib.Core.Logic.{⊎-elim}
-use mathlib.Core.Bool.{Bool, true, false, cond, _&&_, false≢true}
+use mathlib.Core.Bool.{Bool, true, false, cond}
 use mathlib.Core.List.{List}
 use Prim.Native.Nat.{ℕ, _+_, _-_, _*_, _<_, _≤_}
 use native.Mathlib.Omega.{arith}
-use borrow.Author.Tests.{leb-true, leb-false, le-leb, lt-leb, ltb-true, ltb-false}
-use lib.Dec.{leb}
+use borrow.Author.Tests.{ltb-true, ltb-false}
 use lib.ListN.{length, set, length-set}
 use lib.Seq.{getD-set-same, getD-set-other, set-getD, set-set}
 use Rattle.ranges.specs.Fold.{firstBelow, sumBelow}
@@ -18,8 +17,7 @@ use Rattle.ranges.proofs.Sum.{sum-lt}
 use Rattle.ranges.proofs.Tabulate.{length-tabulate, getD-tabulate-past}
 use Rattle.log.specs.declared.Event.{Event}
 use Rattle.log.specs.declared.Checkpoint.{Checkpoint}
-use Rattle.log.specs.Limits.{maxEvents}
-use Rattle.log.specs.Model.{Workers, workerCount, eventOf, checkpointCount, checkpointOf, isUnlogged, unloggedSend}
+use Rattle.log.specs.Model.{Workers, workerCount, eventOf, checkpointCount, checkpointOf, isUnlogged}
 use Rattle.log.proofs.Read.{worker-within, count-past}
 use Rattle.log.specs.Layout.{workersOf}
 use Rattle.accept.specs.Refusal.{logRefusal}
@@ -28,12 +26,12 @@ use Rattle.accept.proofs.Accepted.{well-formed}
 use Rattle.lent.specs.Lent.{at}
 use Rattle.causality.specs.Happened.{IsEvent}
 use Rattle.causality.specs.Cut.{IsCut}
-use Rattle.restore.specs.Choice.{mayChoose, IsChoice, startsOf, Startable}
+use Rattle.restore.specs.Choice.{mayChoose, IsChoice, startsOf, Startable, losesSend}
 use Rattle.restore.specs.Plan.{identifierOf, identifierAt}
 use Rattle.cost.specs.Words.{startIn, cutsIn, startsIn}
 use Rattle.restore.specs.Inner.Rollback.{numberIn, numberBelow, placed, resent, pending, RollingBack, Looked, Settled}
 use Rattle.restore.proofs.Choosable.{may-recorded}
-use Rattle.restore.proofs.Startable.{starts-at, unlogged-receive}
+use Rattle.restore.proofs.Startable.{starts-at, unlogged-receive, lost-send, keeps-send}
 use Rattle.restore.proofs.Chosen.{IndexOffered, choice-starts, identifier-last}
 use Rattle.restore.proofs.Latest.{AreLatest, latest-is-plan}
 use Rattle.cost.proofs.Held.{starts-in-at, cuts-are}
@@ -125,18 +123,16 @@ module _ (log : Workers) (ok : WellFormed log) (cut : List ℕ) (isCut : IsCut l
 
   resent-rolling : Resent (resent log e words)
   unfolding resent
-  resent-rolling = go (isUnlogged e) refl (leb (e .send) (startIn words (e .peer))) refl
+  resent-rolling = go (losesSend e (startIn words (e .peer))) refl
     where
-      same : (isUnlogged e ≡ true → startIn words (e .peer) < e .send) → Resent words
-      same kept = record { rolling = state; starts = λ v. omega arith; kept = kept }
-
-      go : (a : Bool) → isUnlogged e ≡ a → (b : Bool) → leb (e .send) (startIn words (e .peer)) ≡ b
-          → Resent (cond (a && b) (placed log words (e .peer) (numberBelow log (e .peer) (e .send) (numberIn words (e .peer)))) words)
-      go false p b q = same (λ t. absurd (false≢true (sym p ∙ t)))
-      go true p false q = same (λ t. leb-false (e .send) (startIn words (e .peer)) q)
-      go true p true q =
+      go : (b : Bool) → losesSend e (startIn words (e .peer)) ≡ b
+          → Resent (cond b (placed log words (e .peer) (numberBelow log (e .peer) (e .send) (numberIn words (e .peer)))) words)
+      go false q = record { rolling = state; starts = λ v. omega arith; kept = keeps-send e (startIn words (e .peer)) q }
+      go true q =
+          let lost = lost-send e (startIn words (e .peer)) q in
+          let p = lost .unlogged in
+          let low = lost .low in
           let sent = ok .sent w (k + 1) (unlogged-receive e p) in
-          let low = leb-true (e .send) (startIn words (e .peer)) q in
           let number = numberBelow log (e .peer) (e .send) (numberIn words (e .peer)) in
           let below = number-below log (e .peer) (e .send) (numberIn words (e .peer)) (sent .positive) in
           record {
@@ -215,26 +211,23 @@ module _ (log : Workers) (ok : WellFormed log) (cut : List ℕ) (isCut : IsCut l
   at-x : at (set looked₀ w x) w ≡ x
   at-x = getD-set-same looked₀ w x 0 short
 
-  -- every start is below the number that stands for no send
-  pub looking-few : (v : ℕ) → v < workerCount log → startIn words v ≤ maxEvents
-  looking-few v h = omega (arith, so .looked .rolling .within v h, isCut .within v, ok .events v)
-
   pub looking-event : start < x → IsEvent log w x
   looking-event some = (omega arith, omega (arith, so .looked .rolling .looks w, at-x, isCut .within w))
 
   -- the sender is another worker
   own-start : startIn (resent log (eventOf log w x) words) w ≡ startIn words w
   unfolding resent
-  own-start = go (isUnlogged e) refl (leb (e .send) (startIn words (e .peer)))
+  own-start = go (losesSend e (startIn words (e .peer))) refl
     where
       e : Event
       e = eventOf log w x
 
-      go : (a : Bool) → isUnlogged e ≡ a → (b : Bool)
-          → startIn (cond (a && b) (placed log words (e .peer) (numberBelow log (e .peer) (e .send) (numberIn words (e .peer)))) words) w ≡ startIn words w
-      go false p b = refl
-      go true p false = refl
-      go true p true = placed-start-other log words (e .peer) _ w (λ q. ok .sent w x (unlogged-receive e p) .other (sym q))
+      go : (b : Bool) → losesSend e (startIn words (e .peer)) ≡ b
+          → startIn (cond b (placed log words (e .peer) (numberBelow log (e .peer) (e .send) (numberIn words (e .peer)))) words) w ≡ startIn words w
+      go false p = refl
+      go true p =
+          placed-start-other log words (e .peer) _ w
+          (λ q. ok .sent w x (unlogged-receive e (lost-send e (startIn words (e .peer)) p .unlogged)) .other (sym q))
 
   pub looking-more : start < x → Looking log cut words₀ looked₀ w start (resent log (eventOf log w x) words) (x - 1)
   looking-more some =
@@ -250,23 +243,6 @@ pub peer-wide : (s : List ℕ) (w x wide : ℕ) (e : Event) → logRefusal s ≡
 peer-wide s w x wide e accepted long is q =
     let here : e .peer < workerCount (workersOf s) = rw q (well-formed s accepted .peers w x (is .0) (is .1)) in
     omega arith
-
--- the comparison of a start with an event's send, or with the number that stands for none
-pub compared-above : (e : Event) (start : ℕ) → start < unloggedSend e 4294967295 → (isUnlogged e && leb (e .send) start) ≡ false
-unfolding unloggedSend
-compared-above e start = go (isUnlogged e)
-  where
-    go : (b : Bool) → start < cond b (e .send) 4294967295 → (b && leb (e .send) start) ≡ false
-    go true l = lt-leb (e .send) start l
-    go false l = refl
-
-pub compared-below : (e : Event) (start : ℕ) → start ≤ maxEvents → unloggedSend e 4294967295 ≤ start → (isUnlogged e && leb (e .send) start) ≡ true
-unfolding unloggedSend
-compared-below e start few = go (isUnlogged e)
-  where
-    go : (b : Bool) → cond b (e .send) 4294967295 ≤ start → (b && leb (e .send) start) ≡ true
-    go true l = le-leb (e .send) start l
-    go false l = let no : ⊥ = omega arith in absurd no
 
 -- words whose workers were rolled back hold the cut
 pub rolling-cut : (log : Workers) (cut words looked : List ℕ) → IsCut log cut → RollingBack log cut words looked → cutsIn log words ≡ cut

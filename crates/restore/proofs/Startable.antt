@@ -1,27 +1,30 @@
--- Startable choices: the initial states are one, and so is the larger of two.
+-- Startable choices: the test for one, that the initial states are one, and so is the larger of two.
 -- Assumes nothing.
 use mathlib.Core.Path.{_≡_, refl, sym, _∙_, ap}
-use mathlib.Core.Bool.{Bool, true, false, not, cond}
-use mathlib.Core.Logic.{⊎-elim}
+use mathlib.Core.Bool.{Bool, true, false, not, cond, _&&_}
+use mathlib.Core.Logic.{⊎-elim, _↔_}
 use mathlib.Core.List.{List, _∷_}
 use Prim.Native.Nat.{ℕ, zero, suc, _+_, _<_, _≤_, max}
 use native.Mathlib.Omega.{arith}
-use borrow.Author.Tests.{ltb-true, ltb-false, not-false}
-use lib.Dec.{ltb}
+use borrow.Author.Tests.{ltb-true, ltb-false, le-leb, lt-leb, leb-true, leb-false, not-true, not-false}
+use lib.Dec.{leb, ltb}
 use lib.ListN.{length, getD, replicate, length-replicate, List·getD-map, List·getD-eq-default}
 use lib.Seq.{ext-getD}
-use Rattle.ranges.specs.Fold.{tabulate}
+use Rattle.ranges.specs.Fold.{anyBelow, tabulate}
 use Rattle.ranges.proofs.Order.{lt-or-le}
+use Rattle.ranges.proofs.Any.{any-each, any-every, any-same}
+use Rattle.ranges.proofs.Bools.{and-true-left, and-true-right}
 use Rattle.ranges.proofs.Tabulate.{length-tabulate, getD-tabulate, getD-tabulate-past, getD-replicate-all}
 use Rattle.log.specs.declared.Event.{Event}
 use Rattle.log.specs.declared.Checkpoint.{Checkpoint}
 use Rattle.log.specs.Model.{Workers, workerCount, eventOf, initial, isUnlogged, isReceive}
-use Rattle.log.proofs.Read.{checkpoint-initial}
+use Rattle.log.proofs.Read.{checkpoint-initial, worker-within}
 use Rattle.accept.specs.WellFormed.{WellFormed}
 use Rattle.lent.specs.Lent.{at}
-use Rattle.causality.specs.Cut.{Within}
+use Rattle.causality.specs.Cut.{Within, IsCut}
 use Rattle.restore.proofs.Choosable.{may-initial}
-use Rattle.restore.specs.Choice.{Offered, IsChoice, startsOf, Startable}
+use Rattle.restore.specs.Choice.{Offered, IsChoice, startsOf, Startable, losesSend, lostAt, workerLost, isStartable}
+use Rattle.restore.specs.Inner.Rollback.{aboveStarts}
 
 -- a choice starts each worker at the index of its checkpoint
 pub starts-at : (choice : List Checkpoint) (w : ℕ) → at (startsOf choice) w ≡ getD choice w initial .index
@@ -38,6 +41,75 @@ pub sender-within : (log : Workers) → WellFormed log → (w x : ℕ) (e : Even
 sender-within log ok w x e b event test left =
     let receive = unlogged-receive e (sym test ∙ not-false b left) in
     rw event (ok .sent w x (rw event at receive) .within)
+
+-- a receive that loses its send where the sender starts at this index
+pub record LosesSend (e : Event) (start : ℕ) : Type 0 where
+  pub unlogged : isUnlogged e ≡ true
+  pub low : e .send ≤ start
+
+module _ (e : Event) (start : ℕ) where
+  -- the test tells such a receive ..
+  pub lost-send : losesSend e start ≡ true → LosesSend e start
+  unfolding losesSend
+  lost-send q =
+      record {
+        unlogged = and-true-left (isUnlogged e) (leb (e .send) start) q;
+        low = leb-true (e .send) start (and-true-right (isUnlogged e) (leb (e .send) start) q);
+      }
+
+  -- .. and where it fails, a receive of kind 2 has a send above the start
+  pub keeps-send : losesSend e start ≡ false → isUnlogged e ≡ true → start < e .send
+  unfolding losesSend
+  keeps-send q unlogged = leb-false (e .send) start (rw unlogged at q)
+
+  -- one comparison serves every kind
+  pub compared-send : start < 4294967296 → leb (aboveStarts e + e .send) start ≡ losesSend e start
+  unfolding aboveStarts losesSend
+  compared-send few = go (isUnlogged e)
+    where
+      go : (b : Bool) → leb (cond b 0 4294967296 + e .send) start ≡ (b && leb (e .send) start)
+      go true = let same : 0 + e .send ≡ e .send = omega arith in rw same
+      go false = lt-leb (4294967296 + e .send) start (omega arith)
+
+module _ (log : Workers) (cut : List ℕ) (isCut : IsCut log cut) where
+  kept-at : (starts : List ℕ) → Startable log cut starts → (w k : ℕ) → k < at cut w → lostAt log starts w k ≡ false
+  unfolding lostAt
+  kept-at starts startable w k inside = go _ refl
+    where
+      e : Event
+      e = eventOf log w (k + 1)
+
+      after : Bool
+      after = leb (at starts w) k
+
+      go : (b : Bool) → (after && losesSend e (at starts (e .peer))) ≡ b → b ≡ false
+      go false q = refl
+      go true q =
+          let lost = lost-send e (at starts (e .peer)) (and-true-right after (losesSend e (at starts (e .peer))) q) in
+          let start = leb-true (at starts w) k (and-true-left after (losesSend e (at starts (e .peer))) q) in
+          let more = startable w k start inside (lost .unlogged) in
+          let no : ⊥ = omega (arith, lost .low) in absurd no
+
+  -- the test tells the startable ones
+  pub startable-iff : (starts : List ℕ) → (isStartable log cut starts ≡ true) ↔ Startable log cut starts
+  unfolding isStartable workerLost lostAt
+  startable-iff starts = (
+    (λ q w k after inside unlogged.
+        let none = any-each (workerLost log cut starts) (workerCount log) (not-true (anyBelow (workerLost log cut starts) (workerCount log)) q) w
+        (worker-within log w k (omega (arith, isCut .within w))) in
+        keeps-send (eventOf log w (k + 1)) (at starts (eventOf log w (k + 1) .peer)) (rw (le-leb (at starts w) k after) at (any-each (lostAt log starts w) (at cut w) none k inside)) unlogged),
+    (λ startable.
+        rw (any-every (workerLost log cut starts) (workerCount log) (λ w h. any-every (lostAt log starts w) (at cut w) (kept-at starts startable w)))),
+  )
+
+-- words that give the workers the same starts are startable alike
+pub startable-same : (log : Workers) → WellFormed log → (cut : List ℕ) → IsCut log cut → (a b : List ℕ) → ((v : ℕ) → v < workerCount log → at a v ≡ at b v)
+    → isStartable log cut a ≡ isStartable log cut b
+unfolding isStartable workerLost lostAt
+startable-same log ok cut isCut a b same =
+    ap not (any-same (workerLost log cut a) (workerLost log cut b) (workerCount log)
+    (λ w h. any-same (lostAt log a w) (lostAt log b w) (at cut w)
+    (λ k l. rw (same w h, same (eventOf log w (k + 1) .peer) (ok .peers w (k + 1) (omega arith) (omega (arith, isCut .within w)))))))
 
 -- starts that give every worker the same are the same
 pub same-starts : (a b : List ℕ) → length a ≡ length b → Within a b → Within b a → a ≡ b

@@ -1,11 +1,13 @@
 -- Choices of checkpoints of document 01, "Plan".
 -- Assumes nothing.
 use mathlib.Core.Path.{_≡_}
-use mathlib.Core.Bool.{Bool, true}
+use mathlib.Core.Bool.{Bool, true, not, _&&_}
 use mathlib.Core.List.{List, map}
 use Prim.Native.Nat.{ℕ, _+_, _<_, _≤_}
 use lib.Dec.{leb}
 use lib.ListN.{length, getD}
+use Rattle.ranges.specs.Fold.{anyBelow}
+use Rattle.log.specs.declared.Event.{Event}
 use Rattle.log.specs.declared.Checkpoint.{Checkpoint}
 use Rattle.log.specs.Model.{Workers, workerCount, eventOf, checkpointCount, checkpointOf, initial, isUnlogged}
 use Rattle.lent.specs.Lent.{at}
@@ -32,6 +34,22 @@ startsOf choice = map (λ (p : Checkpoint). p .index) choice
 abbrev pub Startable : Workers → List ℕ → List ℕ → Type 0
 Startable log cut starts =
     (w k : ℕ) → at starts w ≤ k → k < at cut w → isUnlogged (eventOf log w (k + 1)) ≡ true → at starts (eventOf log w (k + 1) .peer) < eventOf log w (k + 1) .send
+
+-- e is a kind 2 receive that loses its send where the sender starts at this index: from there the send is not made again
+unfoldable pub losesSend : Event → ℕ → Bool
+losesSend e start = isUnlogged e && leb (e .send) start
+
+-- startable as a test: event k + 1 of w is after its worker's start and loses its send;
+unfoldable pub lostAt : Workers → List ℕ → ℕ → ℕ → Bool
+lostAt log starts w k = leb (at starts w) k && losesSend (eventOf log w (k + 1)) (at starts (eventOf log w (k + 1) .peer))
+
+-- some event of w within the cut is such a one;
+unfoldable pub workerLost : Workers → List ℕ → List ℕ → ℕ → Bool
+workerLost log cut starts w = anyBelow (lostAt log starts w) (at cut w)
+
+-- no worker has one
+unfoldable pub isStartable : Workers → List ℕ → List ℕ → Bool
+isStartable log cut starts = not (anyBelow (workerLost log cut starts) (workerCount log))
 
 -- "the startable choice with every start index the largest"
 pub record IsLatest (log : Workers) (cut : List ℕ) (choice : List Checkpoint) : Type 0 where

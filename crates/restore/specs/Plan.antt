@@ -6,14 +6,14 @@ use Prim.Native.Nat.{ℕ, _+_, _*_, _/_, _%_}
 use lib.Dec.{eqb, leb}
 use Rattle.ranges.specs.Fold.{anyBelow, maxBelow, sumBelow, lastBelow, tabulate, sweep}
 use Rattle.log.specs.declared.Checkpoint.{Checkpoint}
-use Rattle.log.specs.Model.{Workers, workerCount, eventOf, checkpointCount, checkpointOf, isUnlogged}
+use Rattle.log.specs.Model.{Workers, workerCount, eventOf, checkpointCount, checkpointOf}
 use Rattle.lent.specs.Lent.{at}
-use Rattle.restore.specs.Choice.{mayChoose}
+use Rattle.restore.specs.Choice.{mayChoose, losesSend}
 
--- event k + 1 of w is a kind 2 receive after its worker's start, of a send of v at or below index x
+-- event k + 1 of w is after its worker's start and loses its send where v, the sender, starts at index x
 unfoldable pub loses : Workers → List ℕ → ℕ → ℕ → ℕ → ℕ → Bool
 loses log starts v x w k =
-    leb (at starts w) k && isUnlogged (eventOf log w (k + 1)) && eqb (eventOf log w (k + 1) .peer) v && leb (eventOf log w (k + 1) .send) x
+    leb (at starts w) k && eqb (eventOf log w (k + 1) .peer) v && losesSend (eventOf log w (k + 1)) x
 
 unfoldable pub workerLoses : Workers → List ℕ → List ℕ → ℕ → ℕ → ℕ → Bool
 workerLoses log cut starts v x w = anyBelow (loses log starts v x w) (at cut w)

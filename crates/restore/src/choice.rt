@@ -1,9 +1,12 @@
-// The checkpoints that may be chosen.
+// The checkpoints that may be chosen, and the sends that a start loses.
 
+use log::Event;
 ghost use mathlib.Core.Path.{_≡_};
+ghost use Prim.Native.Nat.{_≤_};
 ghost use Rattle.log.specs.Layout.{workersOf};
 ghost use Rattle.accept.specs.Refusal.{logRefusal};
-ghost use Rattle.restore.specs.Choice.{mayChoose};
+ghost use Rattle.restore.specs.Choice.{mayChoose, losesSend};
+ghost use Rattle.restore.specs.Inner.Rollback.{aboveStarts};
 
 // Whether checkpoint c of worker w may be chosen.
 pub fn may_choose(log: &[u8], w: usize, c: u32) -> bool
@@ -11,4 +14,23 @@ pub fn may_choose(log: &[u8], w: usize, c: u32) -> bool
     ensures answer { λ r. ⌜ r ≡ mayChoose (workersOf (now (log .entry))) w c ⌝ }
 {
     c <= log::checkpoint_count(log, w)
+}
+
+// 0 for a receive without its data, and a number above every start for any other event.
+fn above_starts(e: Event) -> u64
+    ensures answer { λ r. ⌜ r ≡ aboveStarts e ⌝ }
+    ensures few { λ r. ⌜ r ≤ 4294967296 ⌝ }
+{
+    if log::is_unlogged(e) {
+        return 0;
+    }
+    4294967296
+}
+
+// Whether event e is a receive that loses its send where the sender starts at `start`. One comparison serves every kind, and a pass over
+// the events of a run has no branch on the kind.
+pub fn loses_send(e: Event, start: u32) -> bool
+    ensures answer { λ r. ⌜ r ≡ losesSend e start ⌝ }
+{
+    above_starts(e) + e.send as u64 <= start as u64
 }

@@ -1,14 +1,14 @@
 // The starts of a plan: each worker is rolled back from its latest checkpoint within the cut, until no send is lost.
 
+use crate::choice::loses_send;
 use crate::choice::may_choose;
 use cost::cut_in;
 use cost::start_in;
 ghost use mathlib.Core.Path.{_≡_};
-ghost use Prim.Native.Nat.{ℕ, _+_, _*_, _<_, _≤_};
+ghost use Prim.Native.Nat.{_+_, _*_, _<_, _≤_};
 ghost use lib.ListN.{length};
 ghost use Rattle.ranges.specs.Fold.{firstBelow};
 ghost use Rattle.lent.specs.Lent.{at};
-ghost use Rattle.log.specs.Limits.{maxEvents};
 ghost use Rattle.log.specs.Layout.{workersOf};
 ghost use Rattle.log.specs.Model.{workerCount, eventOf};
 ghost use Rattle.accept.specs.Refusal.{logRefusal};
@@ -81,16 +81,15 @@ fn begin(log: &[u8], words: &mut [u32], looked: &mut [u32])
     }
 }
 
-// Looks at event x of worker w: the sender of a receive without its data starts below the send.
+// Looks at event x of worker w: the sender of a receive that loses its send starts below the send.
 fn resend(log: &[u8], words: &mut [u32], w: usize, x: u32)
-    requires { ⌜ (logRefusal (now log) ≡ 0) × (length (now words) ≡ 3 * workerCount (workersOf (now log))) × IsEvent (workersOf (now log)) w x
-        × ((v : ℕ) → v < workerCount (workersOf (now log)) → startIn (now words) v ≤ maxEvents) ⌝ }
+    requires { ⌜ (logRefusal (now log) ≡ 0) × (length (now words) ≡ 3 * workerCount (workersOf (now log))) × IsEvent (workersOf (now log)) w x ⌝ }
     ensures words { λ _. ⌜ now (words .exit)
         ≡ resent (workersOf (now (log .entry))) (eventOf (workersOf (now (log .entry))) w x) (now (words .entry)) ⌝ }
 {
     let e = log::event_at(log, w, x);
     let p = e.peer as usize;
-    if start_in(words, p) < log::unlogged_send(e, log::NO_SEND) {
+    if !loses_send(e, start_in(words, p)) {
         return;
     }
     let c = number_below(log, p, number_in(words, p), e.send);

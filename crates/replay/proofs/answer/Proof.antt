@@ -49,9 +49,7 @@ event-answer-requires : tie.Need-event-answer-requires
 event-answer-requires c κs =
     let start = c .before .before .before .before .before .before .before .before .before in
     let here = peer c in
-    let order = start .pre .1 .ordered (c .event-at .result .peer) here in
-    let few = well-formed _ (start .pre .0) .events (c .event-at .result .peer) in
-    (omega (arith, start .pre .1 .placed), omega (arith, start .pre .1 .planned), omega arith)
+    (omega (arith, start .pre .1 .placed), omega (arith, start .pre .1 .planned))
 
 returns-3 : tie.Need-returns-3
 unfolding answerOf cutIn

@@ -1,7 +1,8 @@
 -- `replay::event_answer` meets its contract. Assumes nothing.
-use mathlib.Core.Path.{sym}
+use mathlib.Core.Path.{sym, _∙_}
+use mathlib.Core.Bool.{true, false}
 use Rattle.cost.specs.Words.{startIn}
-use Rattle.replay.proofs.Compared.{compared-waits, compared-lost, compared-done}
+use Rattle.replay.proofs.Compared.{compared-waits, compared-come}
 use borrow.Author.Needs.{needs}
 use Rattle.replay.proofs.event_answer.Statement.{statement}
 use Rattle.replay.proofs.event_answer.Tie as tie
@@ -13,15 +14,13 @@ returns-2 : tie.Need-returns-2
 unfolding startIn
 returns-2 c starts same =
     let come = rw (c .before .before .before .before .unlogged-send .ensures) at (c .before .before .before .if1 .left) in
-    let low = rw (c .before .before .unlogged-send2 .ensures, ← same) at (c .if2 .taken) in
-    sym (compared-lost starts _ _ come low (rw same (c .before .before .before .before .before .before .before .before .before .pre .2)))
+    sym (compared-come starts _ _ come true (rw same (sym (c .before .loses-send .ensures) ∙ c .if2 .taken)))
 
 returns-3 : tie.Need-returns-3
 unfolding startIn
 returns-3 c starts same =
     let come = rw (c .before .before .before .before .unlogged-send .ensures) at (c .before .before .before .if1 .left) in
-    let above = rw (c .before .before .unlogged-send2 .ensures, ← same) at (c .if2 .left) in
-    sym (compared-done starts _ _ come above)
+    sym (compared-come starts _ _ come false (rw same (sym (c .before .loses-send .ensures) ∙ c .if2 .left)))
 
 pub event-answer-spec : {M : Type 1} → statement M
 event-answer-spec =
@@ -32,10 +31,10 @@ event-answer-spec =
     (λ c. search needs)
     (λ c κs. search needs)
     returns
+    (λ c. search needs)
+    (λ c. search needs)
+    (λ c. search needs)
+    (λ c. search needs)
     (λ c κs. search needs)
-    (λ c. search needs)
-    (λ c. search needs)
-    (λ c. search needs)
-    (λ c. search needs)
     returns-2
     returns-3)

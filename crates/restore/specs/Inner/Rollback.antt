@@ -5,16 +5,20 @@ use mathlib.Core.Path.{_≡_}
 use mathlib.Core.Bool.{Bool, true, cond, _&&_}
 use mathlib.Core.List.{List}
 use Prim.Native.Nat.{ℕ, _+_, _*_, _/_, _%_, _<_, _≤_}
-use lib.Dec.{eqb, leb, ltb}
+use lib.Dec.{eqb, ltb}
 use lib.ListN.{length, set}
 use Rattle.ranges.specs.Fold.{lastBelow, tabulate}
 use Rattle.log.specs.declared.Event.{Event}
 use Rattle.log.specs.declared.Checkpoint.{Checkpoint}
 use Rattle.log.specs.Model.{Workers, workerCount, eventOf, checkpointOf, isUnlogged}
 use Rattle.lent.specs.Lent.{at}
-use Rattle.restore.specs.Choice.{mayChoose, IsChoice, startsOf, Startable}
+use Rattle.restore.specs.Choice.{mayChoose, IsChoice, startsOf, Startable, losesSend}
 use Rattle.restore.specs.Plan.{identifierOf, identifierAt, planStarts}
 use Rattle.cost.specs.Words.{cutIn, startIn, startsIn}
+
+-- what the code adds to an event's send, so that one comparison with a start serves every kind
+unfoldable pub aboveStarts : Event → ℕ
+aboveStarts e = cond (isUnlogged e) 0 4294967296
 
 -- the third word of worker w
 unfoldable pub numberIn : List ℕ → ℕ → ℕ
@@ -31,10 +35,10 @@ numberBelow log w bound c = lastBelow (mayStartBelow log w bound) (λ d. d) (c +
 unfoldable pub placed : Workers → List ℕ → ℕ → ℕ → List ℕ
 placed log words w c = set (set words (3 * w + 1) (checkpointOf log w c .index)) (3 * w + 2) c
 
--- the words after event e is looked at: the sender of a kind 2 receive starts below the send
+-- the words after event e is looked at: the sender of a receive that loses its send starts below the send
 unfoldable pub resent : Workers → Event → List ℕ → List ℕ
 resent log e words =
-    cond (isUnlogged e && leb (e .send) (startIn words (e .peer)))
+    cond (losesSend e (startIn words (e .peer)))
     (placed log words (e .peer) (numberBelow log (e .peer) (e .send) (numberIn words (e .peer))))
     words
 

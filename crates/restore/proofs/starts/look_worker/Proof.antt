@@ -5,7 +5,7 @@ use Rattle.log.specs.Layout.{workersOf}
 use Rattle.accept.proofs.Accepted.{well-formed}
 use borrow.Author.Needs.{needs}
 use Rattle.cost.specs.Words.{cutsIn}
-use Rattle.restore.proofs.Settling.{Looking, looking-none, looking-few, looking-event, looking-more, looking-done}
+use Rattle.restore.proofs.Settling.{Looking, looking-none, looking-event, looking-more, looking-done}
 use Rattle.restore.proofs.starts.look_worker.Statement.{statement}
 use Rattle.restore.proofs.starts.look_worker.Tie as tie
 
@@ -36,7 +36,6 @@ resend-requires c κs =
       pre .0,
       so .looked .rolling .wide,
       looking-event _ ok _ (pre .2) _ _ _ (pre .1) _ _ _ so (c .before .loop-test .taken),
-      looking-few _ ok _ (pre .2) _ _ _ (pre .1) _ _ _ so,
     )
 
 sub-x : tie.Need-sub-x Inv-loop μ-loop

@@ -1,8 +1,9 @@
 -- `restore::starts::resend` meets its contract. Assumes nothing.
 use mathlib.Core.Path.{_∙_}
-use Rattle.accept.proofs.Accepted.{accepted-layout, well-formed}
+use borrow.Author.Tests.{not-true, not-false}
+use Rattle.accept.proofs.Accepted.{accepted-layout}
 use Rattle.restore.specs.Inner.Rollback.{resent}
-use Rattle.restore.proofs.Settling.{peer-wide, compared-above, compared-below}
+use Rattle.restore.proofs.Settling.{peer-wide}
 use borrow.Author.Needs.{needs}
 use Rattle.restore.proofs.starts.resend.Statement.{statement}
 use Rattle.restore.proofs.starts.resend.Tie as tie
@@ -18,9 +19,12 @@ start-in-requires c κs =
 returns : tie.Need-returns
 unfolding resent
 returns c =
+    let asked = c .before .loses-send in
     rw (
       ← c .before .before .before .before .before .event-at .ensures,
-      compared-above _ _ (rw (c .before .before .start-in .ensures, c .before .unlogged-send .ensures) at (c .if1 .taken)),
+      ← c .before .before .start-in .ensures,
+      ← asked .ensures,
+      not-true (asked .result) (c .if1 .taken),
     )
 
 number-in-requires : tie.Need-number-in-requires
@@ -39,11 +43,16 @@ returns-2 c =
     let below = c .before .before .before .before in
     let tested = below .before .before .before in
     let read = tested .before .before .before .before .before .event-at in
-    let pre = tested .before .before .before .before .before .before .before .before .pre in
-    let few = pre .3 (read .result .peer) (rw (read .ensures) (well-formed _ (pre .0) .peers _ _ (pre .2 .0) (pre .2 .1))) in
-    let low = rw (tested .before .before .start-in .ensures, tested .before .unlogged-send .ensures) at (tested .if1 .left) in
+    let asked = tested .before .loses-send in
     c .before .before .place .ensures
-    ∙ rw (below .number-below .ensures, below .before .number-in .ensures, ← read .ensures, compared-below _ _ few low)
+    ∙ rw (
+      below .number-below .ensures,
+      below .before .number-in .ensures,
+      ← read .ensures,
+      ← tested .before .before .start-in .ensures,
+      ← asked .ensures,
+      not-false (asked .result) (tested .if1 .left),
+    )
 
 pub resend-spec : {M : Type 1} → statement M
 resend-spec =

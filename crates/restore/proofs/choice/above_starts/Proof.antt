@@ -1,0 +1,17 @@
+-- `restore::choice::above_starts` meets its contract. Assumes nothing.
+use native.Mathlib.Omega.{arith}
+use Rattle.restore.specs.Inner.Rollback.{aboveStarts}
+use borrow.Author.Needs.{needs}
+use Rattle.restore.proofs.choice.above_starts.Statement.{statement}
+use Rattle.restore.proofs.choice.above_starts.Tie as tie
+
+returns : tie.Need-returns
+unfolding aboveStarts
+returns c = (rw (← c .before .is-unlogged .ensures, c .if1 .taken), omega arith)
+
+returns-2 : tie.Need-returns-2
+unfolding aboveStarts
+returns-2 c = (rw (← c .before .is-unlogged .ensures, c .if1 .left), omega arith)
+
+pub above-starts-spec : {M : Type 1} → statement M
+above-starts-spec = tie.close (tie.spec (λ c κs. search needs) returns returns-2)
