@@ -142,10 +142,10 @@ def case_file(worker, event, log):
     return struct.pack("<II", worker, event) + log
 
 
-def tube(kind_of_2_2="receive"):
-    """The tube log. `kind_of_2_2` is the kind of the receive of event 2 of worker 2."""
+def tube(kind_of_2_2="receive", kind_of_1_1="receive"):
+    """The tube log. `kind_of_2_2` is the kind of the receive of event 2 of worker 2, and so on."""
     return build([
         Worker(3, [("receive", 2, 1, 2), ("receive", 1, 3, 5), ("send", 1, 6)], [(1, 1)]),
         Worker(1, [("send", 2, 1), (kind_of_2_2, 2, 2, 3), ("send", 0, 4), ("receive", 0, 3, 7)], [(1, 1)]),
-        Worker(0, [("send", 0, 1), ("send", 1, 2), ("receive", 1, 1, 3)], [(2, 1)]),
+        Worker(0, [("send", 0, 1), ("send", 1, 2), (kind_of_1_1, 1, 1, 3)], [(2, 1)]),
     ])

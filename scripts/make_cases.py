@@ -6,15 +6,15 @@
 
 A case file is an input of the program `plan`: worker, event, then the log. Each case below states its name, the number
 by which document 01, "Refused by the input", or document 02, form 2, refuses its log (0: accepted), and the log. The number
-is written by hand, and reference.py must give the same. The calls are those of calls.py, the expected output is that of
-expected.py.
+is written by hand, and reference.py must give the same. So are the covering sets, where a case states them. The calls are those
+of calls.py, the expected output is that of expected.py.
 """
 
 import os
 import sys
 
 import reference
-from calls import listed
+from calls import IDENTIFIERS, listed
 from expected import case_lines
 from logs import Worker, build, case_file, cut_to, extended, in_form, packed, tube
 from reference import MAX_WORKERS
@@ -26,9 +26,6 @@ CRATE = os.path.join(os.path.dirname(os.path.abspath(__file__)), "..", "crates",
 
 # The largest input of `plan`.
 LARGEST = 65536
-
-# The identifiers that are tested for a covering set where a case states which have one.
-IDENTIFIERS = (0, 1, 2, 3, 4294967295)
 
 # The content of each case, by its name, in the order in which they are run; and the line of this script that makes it.
 CONTENT = {}
@@ -43,13 +40,23 @@ def line_being_run():
     return frame.f_lineno
 
 
-def case(name, number, log, worker=0, event=1):
-    """A case. Its log is refused by the number."""
+def check_sets(name, log, covering):
+    """Those of IDENTIFIERS that cover must be these, where they are given."""
+    for identifier in IDENTIFIERS:
+        reference.check_covering(reference.read(log), identifier)
+    found = tuple(sorted(identifier for identifier in IDENTIFIERS if reference.covers_call(log, identifier)[1]))
+    assert covering in (None, found), "%s: covering sets %r by the reference" % (name, found)
+
+
+def case(name, number, log, worker=0, event=1, covering=None):
+    """A case. Its log is refused by the number; covering: those of IDENTIFIERS that cover, rising."""
     content = case_file(worker, event, log)
     assert name not in CONTENT, "two cases have the name " + name
     assert content not in CONTENT.values(), name + " has the bytes of another case"
     assert len(content) <= LARGEST, name + " is too long for an input of plan"
     assert reference.refusal(log) == number, "%s: %d by the reference" % (name, reference.refusal(log))
+    if number == 0:
+        check_sets(name, log, covering)
     CONTENT[name] = content
     LINE[name] = line_being_run()
 
@@ -82,9 +89,13 @@ def without_events(n):
 
 # ---- Accepted logs
 
-case("tube_log", 0, tube(), worker=0, event=2)
-case("tube_log_receive_2_2_logged", 0, tube("logged"), worker=0, event=2)
-case("two_workers", 0, two())
+# set 1 does not cover: receives 2/2 and 1/1, of kind 2, are after their worker's checkpoint and of the send at the sender's; nobody
+# has set 2
+case("tube_log", 0, tube(), worker=0, event=2, covering=(0,))
+# receive 1/1 is still without its data
+case("tube_log_receive_2_2_logged", 0, tube("logged"), worker=0, event=2, covering=(0,))
+# set 1 does not cover: receive 1/2, of kind 2, is after its worker's checkpoint and of the send at the sender's
+case("two_workers", 0, two(), covering=(0,))
 case("a_send_received_twice", 0, two(first=FIRST + [("receive", 1, 2, 5)]), event=3)
 case("a_send_never_received", 0, two(first=FIRST + [("send", 1, 5)]), event=3)
 case("last_receive_names_a_smaller_send", 0, two(
@@ -92,7 +103,7 @@ case("last_receive_names_a_smaller_send", 0, two(
     second=[("send", 0, 1), ("send", 0, 2), ("send", 0, 3)],
     second_checkpoints=[],
 ), event=2)
-case("sixty_four_workers_with_events", 0, build(each_to_the_next(MAX_WORKERS)), worker=LAST, event=2)
+case("sixty_four_workers_with_events", 0, build(each_to_the_next(MAX_WORKERS)), worker=LAST, event=2, covering=(0,))
 # 48 + 5,456 × 12 + 8 = 65,528 bytes
 case("longest_input", 0, two(
     first=[("send", 1, stamp) for stamp in range(1, 5457)],
@@ -313,7 +324,7 @@ case("last_checkpoint_of_the_last_worker", 11, two(second_checkpoints=[(0, 1), (
 
 TWICE = FIRST + [("receive", 1, 2, 5)]
 case("a_send_received_twice_in_form_2", 24, two(first=TWICE, form=2), event=3)
-case("tube_log_in_form_2", 0, in_form(tube(), 2), worker=0, event=2)
+case("tube_log_in_form_2", 0, in_form(tube(), 2), worker=0, event=2, covering=(0,))
 assert reference.printed(CONTENT["tube_log_in_form_2"]) == reference.printed(CONTENT["tube_log"])
 # the repeat stands behind the last event that is counted: it is no event
 case("repeat_past_the_event_count", 0, two(first=TWICE, fields={(0, "event count"): 2}, form=2), event=2)
@@ -755,26 +766,28 @@ assert len(reference.figure2(reference.read(CONTENT["many_visits"][8:]), 0, 8)[1
 
 
 def plan_case(name, workers, worker, event, starts, identifiers=None, units=None, covering=(0,)):
-    """A case whose starts and what else is given were worked out by hand; covering: those of IDENTIFIERS."""
+    """A case whose starts and what else is given were worked out by hand."""
     log = workers if isinstance(workers, bytes) else build(workers)
-    case(name, 0, log, worker, event)
+    case(name, 0, log, worker, event, covering)
     _, _, _, found_units, _, words = reference.plan_call(log, worker, event, [0] * (3 * MAX_WORKERS), MAX_WORKERS ** 2)
     n = len(starts)
     assert words[1:3 * n:3] == list(starts), "%s: starts %r by the reference" % (name, words[1:3 * n:3])
     assert identifiers in (None, words[2:3 * n:3]), "%s: identifiers %r by the reference" % (name, words[2:3 * n:3])
     assert units in (None, found_units), "%s: units %d by the reference" % (name, found_units)
-    found = tuple(identifier for identifier in IDENTIFIERS if reference.covers_call(log, identifier)[1])
-    assert covering == found, "%s: covering sets %r by the reference" % (name, found)
 
 
-# Every breakpoint of the tube log with receive 2/2 of kind 3, but 0/2. Set 1 covers: no receive after its worker's
-# checkpoint is of a send before the sender's.
+# Every breakpoint of the tube log with receive 2/2 of kind 3, but 0/2. Set 1 does not cover: receive 1/1 of worker 2 is after its
+# worker's checkpoint and of the send at the sender's.
 for worker, event, starts in (
     (0, 1, (1, 0, 0)), (0, 3, (1, 1, 2)),
     (1, 1, (0, 1, 0)), (1, 2, (0, 1, 2)), (1, 3, (0, 1, 2)), (1, 4, (1, 1, 2)),
     (2, 1, (0, 0, 0)), (2, 2, (0, 0, 2)), (2, 3, (0, 0, 2)),
 ):
-    plan_case("tube_log_receive_2_2_logged_%d_%d" % (worker, event), tube("logged"), worker, event, starts, covering=(0, 1))
+    plan_case("tube_log_receive_2_2_logged_%d_%d" % (worker, event), tube("logged"), worker, event, starts)
+# receive 2/2 alone is of a send at the checkpoint and without its data: set 1 does not cover
+plan_case("tube_log_receive_1_1_logged", tube(kind_of_1_1="logged"), 2, 3, (0, 1, 2), [0, 1, 1], units=5)
+# both have their data: set 1 covers, and a plan with its checkpoints within the cut starts every worker there
+plan_case("tube_log_receives_2_2_and_1_1_logged", tube("logged", "logged"), 1, 4, (1, 1, 2), [1, 1, 1], units=19, covering=(0, 1))
 
 
 # ---- Which checkpoint: worker 1 receives the second and then the third of three sends
@@ -861,21 +874,24 @@ plan_case("half_of_64_lowered", changed(after_each(["send"], chain(UP)), 31, che
 plan_case("half_of_64_lowered_by_a_logged_receive", changed(
     after_each(["send"], chain(UP)), 31, events=[("logged", 30, 2, 62), ("send", 32, 63)]), LAST, 1,
     [1] + [2] * 30 + [0] * 33)
-# the worker of the breakpoint may start after its receive: nothing is lowered
+# the worker of the breakpoint may start after its receive: nothing is lowered; set 1 is at the last event of every worker
 plan_case("none_of_64_lowered", changed(after_each(["send"], chain(UP)), LAST, checkpoints=[(1, 1)]), LAST, 1,
     [1] + [2] * 62 + [1], covering=(0, 1))
-# each worker but the last is lowered twice: the chain goes to worker 63 and back
-plan_case("all_of_64_lowered_up_and_back", after_each(["send"], chain(UP + DOWN[1:])), 0, 2, [0] * MAX_WORKERS, covering=(0, 1))
-plan_case("all_of_64_lowered_down_and_back", after_each(["send"], chain(DOWN + UP[1:])), LAST, 2, [0] * MAX_WORKERS, covering=(0, 1))
-# on the way back the data of the receive of worker 63 are logged: each is lowered once
+# each worker but the last is lowered twice: the chain goes to worker 63 and back. Set 1 is at the first send of each worker, and
+# one receive after it is of such a send: of the only send of the worker where the chain turns
+plan_case("all_of_64_lowered_up_and_back", after_each(["send"], chain(UP + DOWN[1:])), 0, 2, [0] * MAX_WORKERS)
+plan_case("all_of_64_lowered_down_and_back", after_each(["send"], chain(DOWN + UP[1:])), LAST, 2, [0] * MAX_WORKERS)
+# on the way back the data of the receive of worker 63 are logged: each is lowered once. Set 1 still lacks the data of that receive
+# of worker 62
 plan_case("each_of_64_lowered_once", changed(
     after_each(["send"], chain(UP + DOWN[1:])), LAST, events=[("logged", 62, 2, 126), ("send", 62, 127)]), 0, 2,
-    [1] + [2] * 62 + [0], covering=(0, 1))
+    [1] + [2] * 62 + [0])
 plan_case("all_of_5_lowered_in_mixed_order", after_each(["send"], chain([3, 0, 4, 1, 2])), 2, 1, [0] * 5)
-# 75 rounds with checkpoints after the sends: every start is lowered round by round to 0
-plan_case("lowered_150_times", after_each(["send"], exchange(75)), 0, 150, (0, 0), covering=(0, 1, 2, 3))
-# with checkpoints after the receives nothing is lowered
-plan_case("lowered_no_time", after_each(["receive"], exchange(75)), 0, 150, (150, 149), covering=(0, 1, 2, 3))
+# 75 rounds with checkpoints after the sends: every start is lowered round by round to 0. No set covers: the first receive of
+# worker 0 after its checkpoint is of the send at that of worker 1
+plan_case("lowered_150_times", after_each(["send"], exchange(75)), 0, 150, (0, 0))
+# with checkpoints after the receives nothing is lowered, and every set covers: later receives are of later sends
+plan_case("lowered_no_time", after_each(["receive"], exchange(75)), 0, 150, (150, 149), covering=(0, 1, 2, 3, 4, 5, 6, 7, 8))
 
 # ---- Kinds mixed, and every role
 
@@ -914,19 +930,33 @@ plan_case("every_kind_in_every_role", [
 # ---- Covering sets
 
 
-def covering_workers(kind, first, second, third=None):
-    """Worker 1 receives send 1 of worker 0 as its second event; a third worker without events where it is given."""
+def covering_workers(kind, first, second, third=None, send=1):
+    """Worker 1 receives this send of worker 0, its last but one, as its second event; a third worker, if given, has no events."""
     workers = [
-        Worker(0, [("send", 1, 1), ("send", 1, 2)], first),
-        Worker(1, [("send", 0, 1), (kind, 0, 1, 3)], second),
+        Worker(0, [("send", 1, x) for x in range(1, send + 2)], first),
+        Worker(1, [("send", 0, 1), (kind, 0, send, send + 2)], second),
     ]
     return workers + ([] if third is None else [Worker(2, [], third)])
 
 
-# set 1: the send is at the sender's checkpoint; set 2: it is before it; set 3: the receive is before its checkpoint
 SETS = [(1, 1), (2, 2), (2, 3)], [(1, 1), (1, 2), (2, 3)]
-plan_case("covering_set_without_data", covering_workers("receive", *SETS), 1, 2, (1, 2), [1, 3], covering=(0, 1, 3))
+# set 1: the send is at the sender's checkpoint; set 2: it is before it; set 3: every checkpoint is at the last event of its worker
+plan_case("covering_set_without_data", covering_workers("receive", *SETS), 1, 2, (1, 2), [1, 3], covering=(0, 3))
 plan_case("covering_set_with_data", covering_workers("logged", *SETS), 1, 2, (1, 2), [1, 3], covering=(0, 1, 2, 3))
+AROUND = [(1, 1), (2, 2), (3, 3)], [(1, 1), (1, 2), (1, 3)]
+# set 1: the send is one after the sender's checkpoint; set 2: it is at it; set 3: it is one before it
+plan_case("send_after_at_and_before_the_checkpoint", covering_workers("receive", *AROUND, send=2), 1, 2, (1, 1), [1, 3],
+    covering=(0, 1))
+# the same with the receive's data logged
+plan_case("send_after_at_and_before_the_checkpoint_with_data", covering_workers("logged", *AROUND, send=2), 1, 2, (2, 1), [2, 3],
+    covering=(0, 1, 2, 3))
+# the send is at the sender's checkpoint; set 1: the receive is two after its worker's; set 2: one after it; set 3: at it
+plan_case("receive_after_and_at_its_checkpoint", covering_workers(
+    "receive", [(2, 1), (2, 2), (2, 3)], [(0, 1), (1, 2), (2, 3)], send=2), 1, 2, (2, 2), [3, 3], covering=(0, 3))
+# set 1: every send is at its worker's checkpoint and every receive after it; set 2: every receive is at it, and nothing after it
+plan_case("sets_at_the_sends_and_at_the_receives", [
+    Worker(worker.role, worker.events, [(1, 1), (2, 2)]) for worker in each_to_the_next(3)
+], 0, 2, (2, 0, 1), [2, 0, 1], covering=(0, 2))
 plan_case("set_lacking_in_the_first", covering_workers("logged", [(1, 1), (2, 3)], SETS[1]), 1, 2, (1, 2), [1, 3],
     covering=(0, 1, 3))
 plan_case("set_lacking_in_the_last", covering_workers("logged", SETS[0], [(1, 1), (1, 2)]), 1, 2, (1, 1), [1, 2],
@@ -943,12 +973,24 @@ plan_case("set_4294967295", covering_workers("receive", [(2, 4294967295)], [(2, 
     covering=(0, 4294967295))
 plan_case("set_4294967295_without_data", covering_workers("receive", [(2, 4294967295)], [(0, 4294967295)]), 0, 2,
     (2, 0), [4294967295, 4294967295])
-# of the receives after the checkpoints of set 1 just one is without data and of a send before them; receive 20 names the
-# send at the checkpoint, so the plan starts worker 0 before it
-plan_case("one_receive_of_many_without_data", [
-    Worker(0, [("send", 1, x) for x in range(1, 31)], [(20, 1), (20, 2)]),
-    Worker(1, [("logged" if x < 20 and x != 13 else "receive", 0, x, 30 + x) for x in range(1, 31)], [(12, 1), (13, 2)]),
-], 1, 30, (0, 13), [0, 2], covering=(0, 2))
+
+
+def thirty_receives(last):
+    """Worker 1 receives 30 sends, those up to the last one given with their data, but for the 13th.
+
+    Set 1 is at send 20 and receive 12, set 2 at send 20 and receive 13.
+    """
+    return [
+        Worker(0, [("send", 1, x) for x in range(1, 31)], [(20, 1), (20, 2)]),
+        Worker(1, [("logged" if x <= last and x != 13 else "receive", 0, x, 30 + x) for x in range(1, 31)], [(12, 1), (13, 2)]),
+    ]
+
+
+# of the receives after set 2 just one is without its data and of a send up to the sender's checkpoint: receive 20, of the send at
+# it. So the plan starts worker 0 before it
+plan_case("one_receive_of_many_without_data", thirty_receives(19), 1, 30, (0, 13), [0, 2])
+# the data of receive 20 are logged: after set 1 just receive 13, of a send before the checkpoint, lacks its data; after set 2 none
+plan_case("receive_13_of_30_without_data", thirty_receives(20), 1, 30, (20, 13), [2, 2], covering=(0, 2))
 
 
 def files():

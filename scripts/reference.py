@@ -1,6 +1,6 @@
 #!/usr/bin/env python3
-"""Document 01, and form 2 and the packed logs of document 02, written in Python from the definitions. The expected output of
-the stored cases comes from here.
+"""Document 01, and form 2, the packed logs and the covering test of document 02, written in Python from the definitions. The
+expected output of the stored cases comes from here.
 
     scripts/reference.py --check    the values T1 to T10, and the definitions against brute force on random small logs
 
@@ -344,7 +344,9 @@ def units_of(log, cut, starts):
 
 
 def covers(log, identifier):
-    """Whether the identifier covers (paper, section 5.2)."""
+    """Whether the identifier covers: every worker has a checkpoint with it, and every receive after its worker's checkpoint, of a
+    send with index smaller than or equal to the sender's checkpoint index, is kind 3. For 0 the initial states are meant.
+    In the paper, section 5.2, a send at the sender's checkpoint itself is not counted; here it is (document 02, note 3)."""
     index = {}
     for w in range(log.n):
         for c in offered(log, w):
@@ -355,7 +357,7 @@ def covers(log, identifier):
     return all(
         event.kind == LOGGED
         for w in range(log.n) for event in log.events[w][index[w]:]
-        if is_receive(event) and event.send < index[event.peer]
+        if is_receive(event) and event.send <= index[event.peer]
     )
 
 
@@ -600,18 +602,45 @@ def check_tube():
 
 
 def check_checkpoints():
-    """Identifiers and covering sets of logs with the answer worked out by hand."""
-    send, receive = ("send", 1, 1), ("receive", 0, 1, 2)
-    first = logs.Worker(0, [send, ("send", 1, 3)], [(0, 2), (0, 5), (1, 6), (2, 7), (2, 9)])
-    log = read(logs.build([first, logs.Worker(0, [receive])]))
+    """Identifiers of a log with the answer worked out by hand."""
+    first = logs.Worker(0, [("send", 1, 1), ("send", 1, 3)], [(0, 2), (0, 5), (1, 6), (2, 7), (2, 9)])
+    log = read(logs.build([first, logs.Worker(0, [("receive", 0, 1, 2)])]))
     expect("identifiers", [identifier_of(log, 0, index) for index in (0, 1, 2)], [5, 6, 9])
     expect("nothing recorded", identifier_of(log, 1, 0), 0)
     expect("worker 1 lacks the identifier", covers(log, 5), False)
-    expect("tube log, the send is at the checkpoint", covers(read(logs.tube()), 1), True)
-    for kind, covered in (("receive", False), ("logged", True)):
-        second = logs.Worker(0, [(kind, 0, 1, 2)], [(0, 9)])
-        log = read(logs.build([first, second]))
-        expect("a send before the checkpoint, " + kind, covers(log, 9), covered)
+
+
+# Set 9 of two workers: worker 0 has three sends, and the second event of worker 1 is the receive of the second send. The index
+# of the sender's checkpoint, that of the receiver's, and whether the set covers where the receive is kind 2; with kind 3 it does.
+SET_9 = (
+    # the receive is just after its worker's checkpoint, the send one before the sender's, at it, one after it
+    (3, 1, False), (2, 1, False), (1, 1, True),
+    # the receive is the second event after its worker's checkpoint
+    (3, 0, False), (2, 0, False), (1, 0, True),
+    # the receive is at its worker's checkpoint, so it is not counted
+    (3, 2, True), (2, 2, True), (1, 2, True),
+    # the receive is before its worker's checkpoint
+    (3, 3, True), (2, 3, True), (1, 3, True),
+)
+
+
+def check_sets():
+    """Covering sets of logs with the answer worked out by hand."""
+    # after the checkpoints of set 1, receives 2/2 and 1/1 are of sends at the sender's, and 1/3 and 0/3 of later ones
+    for kinds, covered in (
+        (("receive", "receive"), False), (("logged", "receive"), False),
+        (("receive", "logged"), False), (("logged", "logged"), True),
+    ):
+        log = read(logs.tube(*kinds))
+        found = [covers(log, identifier) for identifier in (0, 1, 2)]
+        expect("sets 0, 1 and 2 of the tube log, 2/2 and 1/1 %s and %s" % kinds, found, [True, covered, False])
+    for (sender, receiver, without_data), kind in itertools.product(SET_9, ("receive", "logged")):
+        log = read(logs.build([
+            logs.Worker(0, [("send", 1, 1), ("send", 1, 2), ("send", 1, 3)], [(sender, 9)]),
+            logs.Worker(0, [("send", 0, 1), (kind, 0, 2, 3), ("send", 0, 4)], [(receiver, 9)]),
+        ]))
+        name = "set 9 at %d and %d, %s" % (sender, receiver, kind)
+        expect(name, [covers(log, identifier) for identifier in (0, 8, 9)], [True, False, kind == "logged" or without_data])
 
 
 def check_limit():
@@ -679,6 +708,19 @@ def every_cut(log):
 
 def at_most(a, b):
     return all(x <= y for x, y in zip(a, b))
+
+
+def all_events(log):
+    """The cut of all events."""
+    return [log.count(w) for w in range(log.n)]
+
+
+def check_covering(log, identifier):
+    """An identifier covers exactly where every worker has a checkpoint with it, and these are startable for the cut of all
+    events."""
+    options = [[c.index for c in offered(log, w) if c.identifier == identifier] for w in range(log.n)]
+    startable = [is_startable(log, all_events(log), starts) for starts in itertools.product(*options)]
+    expect("covers", covers(log, identifier), startable == [True])
 
 
 def check_cuts(log, i, e):
@@ -775,6 +817,8 @@ def check_random(logs_tried):
         check_pack(data, scattered(seed, workers, form))
         repeats += check_forms(data)
         log = read(data)
+        for identifier in range(8):
+            check_covering(log, identifier)
         for i, e in log.every_event():
             check_cuts(log, i, e)
             check_plan(log, data, i, e)
@@ -784,13 +828,38 @@ def check_random(logs_tried):
     return repeats, tried, lowered
 
 
+def check_random_sets(logs_tried):
+    """Sets 1, 2 and 3 of each log: every worker has a checkpoint of each. A set covers exactly where every event can be replayed
+    from its checkpoints. The number of sets that cover, and of those that do not, the receives at fault being of sends at the
+    sender's checkpoint alone."""
+    covering = at_checkpoint = 0
+    for seed, form in itertools.product(range(logs_tried), FORMS):
+        rng = random.Random(seed)
+        workers = random_workers(seed, form)
+        for worker in workers:
+            worker.checkpoints = list(zip(sorted(rng.randint(0, len(worker.events)) for _ in range(3)), (1, 2, 3)))
+        log = read(logs.build(workers, form=form))
+        for identifier in range(5):
+            check_covering(log, identifier)
+        for identifier in (1, 2, 3):
+            starts = [log.checkpoints[w][identifier - 1].index for w in range(log.n)]
+            expect("replayed from the set", works(log, all_events(log), starts), covers(log, identifier))
+            covering += covers(log, identifier)
+            missed = lost(log, all_events(log), starts)
+            at_checkpoint += missed != [] and all(event.send == starts[event.peer] for event in missed)
+    return covering, at_checkpoint
+
+
 def check():
     check_tube()
     check_checkpoints()
+    check_sets()
     check_limit()
     repeats, tried, lowered = check_random(400)
+    covering, at_checkpoint = check_random_sets(400)
     print("T1 to T10; %d breakpoints of 400 logs of each form, %d of them with starts below the latest" % (tried, lowered))
     print("each log in both forms, %d of them with two receives of one send; packed, also from sections in any order" % repeats)
+    print("2400 sets, %d of them cover, %d do not because of sends at the checkpoint alone" % (covering, at_checkpoint))
 
 
 if __name__ == "__main__":

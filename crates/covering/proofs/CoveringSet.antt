@@ -1,24 +1,32 @@
--- The covering test tells whether an identifier covers: the checkpoint of a worker with an identifier is one only.
+-- The covering test tells whether an identifier covers, and whether its checkpoints are startable for the cut of all events: the checkpoint
+-- of a worker with an identifier is one only.
 -- Assumes nothing.
-use mathlib.Core.Path.{_≡_, refl, sym, _∙_, ap}
-use mathlib.Core.Bool.{Bool, true, false, not, _&&_, _||_, and-true}
+use mathlib.Core.Path.{_≡_, sym, _∙_, ap}
+use mathlib.Core.Bool.{true, false, not, false≢true}
 use mathlib.Core.Logic.{⊎-elim, _↔_}
+use mathlib.Core.List.{List}
 use Prim.Native.Nat.{ℕ, _+_, _<_}
 use native.Mathlib.Omega.{arith}
-use borrow.Author.Tests.{le-leb, leb-true, eqb-true, lt-ltb, ltb-true, not-true, not-false}
-use lib.Dec.{eqb, leb, ltb}
-use Rattle.ranges.specs.Fold.{anyBelow, lastBelow}
+use borrow.Author.Tests.{eqb-true, eq-eqb, not-true, not-false}
+use lib.Dec.{eqb}
+use lib.ListN.{getD, length-map}
+use Rattle.ranges.specs.Fold.{anyBelow, lastBelow, tabulate}
 use Rattle.ranges.proofs.Order.{lt-or-le, rising}
 use Rattle.ranges.proofs.Any.{any-each, any-every, any-found, any-some}
-use Rattle.ranges.proofs.Bools.{or-false-left, or-false-right, and-true-left, and-true-right}
+use Rattle.ranges.proofs.Bools.{and-true-left, and-true-right, or-true-cases}
 use Rattle.ranges.proofs.First.{last, last-zero}
+use Rattle.ranges.proofs.Tabulate.{length-tabulate, getD-tabulate, getD-tabulate-past, tabulate-list}
 use Rattle.log.specs.declared.Event.{Event}
-use Rattle.log.specs.Model.{Workers, workerCount, eventCount, eventOf, checkpointCount, checkpointOf, isReceive, isLogged}
-use Rattle.log.proofs.Read.{worker-within, checkpoint-initial}
+use Rattle.log.specs.declared.Checkpoint.{Checkpoint}
+use Rattle.log.specs.Model.{Workers, workerCount, eventCount, eventOf, checkpointCount, checkpointOf, initial, isReceive, isLogged, isUnlogged}
+use Rattle.log.proofs.Read.{worker-within, checkpoint-initial, count-past}
 use Rattle.accept.specs.WellFormed.{WellFormed}
-use Rattle.restore.specs.Choice.{mayChoose}
-use Rattle.covering.specs.Covering.{isSet, Covers, withoutSet, indexOf, setIndex, uncovered, workerUncovered, coveringSet}
+use Rattle.lent.specs.Lent.{at}
+use Rattle.causality.specs.Cut.{IsCut}
+use Rattle.restore.specs.Choice.{mayChoose, IsChoice, startsOf, Startable, isStartable}
+use Rattle.covering.specs.Covering.{isSet, Covers, cutOfAll, StartableSet, withoutSet, indexOf, setIndex, setStarts, coveringSet, CoversWhenStartable}
 use Rattle.restore.proofs.Choosable.{may-below, may-initial}
+use Rattle.restore.proofs.Startable.{starts-at, unlogged-receive, startable-iff}
 
 module _ (log : Workers) (t : ℕ) where
   set-below : (w c : ℕ) → isSet log t w c ≡ true → c < checkpointCount log w + 1
@@ -28,6 +36,10 @@ module _ (log : Workers) (t : ℕ) where
   set-identifier : (w c : ℕ) → isSet log t w c ≡ true → checkpointOf log w c .identifier ≡ t
   unfolding isSet
   set-identifier w c e = eqb-true (checkpointOf log w c .identifier) t (and-true-right (mayChoose log w c) (eqb (checkpointOf log w c .identifier) t) e)
+
+  set-may : (w c : ℕ) → isSet log t w c ≡ true → mayChoose log w c ≡ true
+  unfolding isSet
+  set-may w c e = and-true-left (mayChoose log w c) (eqb (checkpointOf log w c .identifier) t) e
 
   -- the index of the set is 0 where no checkpoint has identifier t
   pub set-none : (w : ℕ) → ((c : ℕ) → c < checkpointCount log w + 1 → isSet log t w c ≡ false) → setIndex log t w ≡ 0
@@ -59,82 +71,171 @@ pub set-initial : (log : Workers) → WellFormed log → (w c : ℕ) → isSet l
 unfolding isSet
 set-initial log ok w c e = set-unique log 0 ok w c 0 e (rw (may-initial log w, checkpoint-initial log w))
 
+-- an event of kind 2 is not of kind 3
+not-logged : (e : Event) → isUnlogged e ≡ true → isLogged e ≡ false
+unfolding isUnlogged isLogged
+not-logged e q = rw (eqb-true (e .kind) 2 q)
+
+-- a receive that is not of kind 2 is of kind 3
+unless-unlogged : (e : Event) → isReceive e ≡ true → (isUnlogged e ≡ true → ⊥) → isLogged e ≡ true
+unfolding isReceive
+unless-unlogged e receive none = ⊎-elim (λ q. absurd (none q)) (λ q. q) (or-true-cases (isUnlogged e) (isLogged e) receive)
+
 -- the number of worker w's checkpoint t
 setNumber : Workers → ℕ → ℕ → ℕ
 setNumber log t w = lastBelow (isSet log t w) (λ c. c) (checkpointCount log w + 1)
 
+-- each worker is at its last event in the cut of all events
+pub all-at : (log : Workers) (w : ℕ) → at (cutOfAll log) w ≡ eventCount log w
+unfolding cutOfAll
+all-at log w =
+    ⊎-elim
+    (λ l. getD-tabulate (eventCount log) (workerCount log) w 0 l)
+    (λ l. getD-tabulate-past (eventCount log) (workerCount log) w 0 l ∙ sym (count-past log w l))
+    (lt-or-le w (workerCount log))
+
+-- the cut of all events is a cut
+pub cut-of-all : (log : Workers) → IsCut log (cutOfAll log)
+unfolding cutOfAll
+cut-of-all log = record { long = length-tabulate (eventCount log) (workerCount log); within = λ w. omega (arith, all-at log w) }
+
 module _ (log : Workers) (t : ℕ) (ok : WellFormed log) where
-  -- no worker lacks a checkpoint t
-  present : anyBelow (withoutSet log t) (workerCount log) ≡ false → (w : ℕ) → w < workerCount log → isSet log t w (setNumber log t w) ≡ true
-  unfolding withoutSet setNumber
-  present none w h =
-      let some = any-some (isSet log t w) (checkpointCount log w + 1) (not-false _ (any-each (withoutSet log t) (workerCount log) none w h)) in
-      let found = last (isSet log t w) (λ c. c) (checkpointCount log w + 1) (some .0) (some .1) (some .2) in
-      rw (found .2) (found .1 .holds)
+  -- every worker has a checkpoint t
+  abbrev HasSet : Type 0
+  HasSet = (w : ℕ) → w < workerCount log → (c : ℕ) × (isSet log t w c ≡ true)
 
-  none-without : (number : ℕ → ℕ) → ((w : ℕ) → w < workerCount log → isSet log t w (number w) ≡ true) → anyBelow (withoutSet log t) (workerCount log) ≡ false
+  -- .. and these checkpoints are startable for the cut of all events
+  abbrev Starts : Type 0
+  Starts = HasSet × Startable log (cutOfAll log) (setStarts log t)
+
+  start-at : (w c : ℕ) → w < workerCount log → isSet log t w c ≡ true → at (setStarts log t) w ≡ checkpointOf log w c .index
+  unfolding setStarts
+  start-at w c h e = getD-tabulate (setIndex log t) (workerCount log) w 0 h ∙ set-index log t ok w c e
+
+  -- ---- the test
+  found : HasSet → (w : ℕ) → w < workerCount log → isSet log t w (setNumber log t w) ≡ true
+  unfolding setNumber
+  found has w h =
+      let some = has w h in
+      let last = last (isSet log t w) (λ c. c) (checkpointCount log w + 1) (some .0) (set-below log t w (some .0) (some .1)) (some .1) in
+      rw (last .2) (last .1 .holds)
+
+  none-without : (anyBelow (withoutSet log t) (workerCount log) ≡ false) ↔ HasSet
   unfolding withoutSet
-  none-without number has =
-      any-every (withoutSet log t) (workerCount log)
-      (λ w h. rw (any-found (isSet log t w) (checkpointCount log w + 1) (number w) (set-below log t w (number w) (has w h)) (has w h)))
+  none-without = (
+    (λ none w h.
+        let some = any-some (isSet log t w) (checkpointCount log w + 1) (not-false _ (any-each (withoutSet log t) (workerCount log) none w h)) in
+        (some .0, some .2)),
+    (λ has.
+        any-every (withoutSet log t) (workerCount log)
+        (λ w h. rw (any-found (isSet log t w) (checkpointCount log w + 1) (has w h .0) (set-below log t w (has w h .0) (has w h .1)) (has w h .1)))),
+  )
 
-  -- no receive that the test looks for: the others are as they should be
-  all-logged : (number : ℕ → ℕ) → ((w : ℕ) → w < workerCount log → isSet log t w (number w) ≡ true) → anyBelow (workerUncovered log t) (workerCount log) ≡ false → Covers log t number
-  unfolding workerUncovered uncovered
-  all-logged number has none =
+  test-starts : (coveringSet log t ≡ true) ↔ Starts
+  unfolding coveringSet
+  test-starts =
+      let without = anyBelow (withoutSet log t) (workerCount log) in
+      let startable = isStartable log (cutOfAll log) (setStarts log t) in
+      let iff = startable-iff log (cutOfAll log) (cut-of-all log) (setStarts log t) in (
+        (λ e. (none-without .0 (not-true without (and-true-left (not without) startable e)), iff .0 (and-true-right (not without) startable e))),
+        (λ s. rw (none-without .1 (s .0), iff .1 (s .1))),
+      )
+
+  -- ---- the property: what it excludes is a receive that loses its send
+  covers-starts : ((number : ℕ → ℕ) × Covers log t number) ↔ Starts
+  covers-starts = (
+    (λ (number, covers). (
+      (λ w h. (number w, covers .has w h)),
+      (λ w k after inside unlogged.
+          let e = eventOf log w (k + 1) in
+          let here = worker-within log w k (omega (arith, all-at log w)) in
+          let receive = unlogged-receive e unlogged in
+          let there = ok .sent w (k + 1) receive .within in
+          let mine = start-at w (number w) here (covers .has w here) in
+          let peers = start-at (e .peer) (number (e .peer)) there (covers .has (e .peer) there) in
+          ⊎-elim
+          (λ l. l)
+          (λ l. absurd (false≢true (sym (not-logged e unlogged) ∙ covers .logged w k (omega arith) (omega (arith, all-at log w)) receive (omega arith))))
+          (lt-or-le (at (setStarts log t) (e .peer)) (e .send))),
+    )),
+    (λ (has, startable). (
+      setNumber log t,
       record {
-        has = has;
-        logged = λ w k after inside receive below.
+        has = found has;
+        logged = λ w k after inside receive low.
             let e = eventOf log w (k + 1) in
             let here = worker-within log w k inside in
-            let one = set-index log t ok w (number w) (has w here) in
-            let two = set-index log t ok (e .peer) (number (e .peer)) (has (e .peer) (ok .sent w (k + 1) receive .within)) in
-            let test = any-each (uncovered log t w) (eventCount log w) (any-each (workerUncovered log t) (workerCount log) none w here) k inside in
-            not-false (isLogged e) (sym (and-true (not (isLogged e)))
-            ∙ (rw (le-leb (setIndex log t w) k (omega arith), receive, lt-ltb (e .send) (setIndex log t (e .peer)) (omega arith)) at test));
+            let there = ok .sent w (k + 1) receive .within in
+            let mine = start-at w (setNumber log t w) here (found has w here) in
+            let peers = start-at (e .peer) (setNumber log t (e .peer)) there (found has (e .peer) there) in
+            unless-unlogged e receive (λ unlogged. let above = startable w k (omega arith) (omega (arith, all-at log w)) unlogged in let no : ⊥ = omega arith in no);
+      },
+    )),
+  )
+
+  -- ---- the choice
+  choice-set : (choice : List Checkpoint) (s : StartableSet log t choice) (w : ℕ) → (h : w < workerCount log) → isSet log t w (s .isChoice .offered w h .0) ≡ true
+  unfolding isSet
+  choice-set choice s w h =
+      let o = s .isChoice .offered w h in
+      rw (o .1, eq-eqb (checkpointOf log w (o .0) .identifier) t (ap (λ (p : Checkpoint). p .identifier) (o .2) ∙ s .has w h))
+
+  abbrev setPoint : ℕ → Checkpoint
+  setPoint w = checkpointOf log w (setNumber log t w)
+
+  set-choice : HasSet → IsChoice log (cutOfAll log) (tabulate setPoint (workerCount log))
+  set-choice has =
+      record {
+        long = length-tabulate setPoint (workerCount log);
+        offered = λ w h. (setNumber log t w, set-may log t w (setNumber log t w) (found has w h), sym (getD-tabulate setPoint (workerCount log) w initial h));
+        within = λ w.
+            ⊎-elim
+            (λ l. rw (getD-tabulate setPoint (workerCount log) w initial l) (omega (arith, all-at log w, ok .indices w (setNumber log t w))))
+            (λ l. rw (getD-tabulate-past setPoint (workerCount log) w initial l) (omega arith))
+            (lt-or-le w (workerCount log));
       }
 
-  -- .. and the other way
-  not-uncovered : (number : ℕ → ℕ) → Covers log t number → (w : ℕ) → w < workerCount log → (k : ℕ) → k < eventCount log w → uncovered log t w k ≡ false
-  unfolding uncovered
-  not-uncovered number covers w here k inside = go _ refl
-    where
-      e : Event
-      e = eventOf log w (k + 1)
+  -- a choice of the checkpoints t has their indices as its starts
+  same-indices : (choice : List Checkpoint) → IsChoice log (cutOfAll log) choice
+      → ((w : ℕ) → w < workerCount log → (c : ℕ) × (isSet log t w c ≡ true) × (checkpointOf log w c ≡ getD choice w initial)) → startsOf choice ≡ setStarts log t
+  unfolding setStarts
+  same-indices choice is each =
+      tabulate-list (setIndex log t) (workerCount log) 0 (startsOf choice) (length-map choice (λ (p : Checkpoint). p .index) ∙ is .long)
+      (λ w h.
+      let one = each w h in
+      starts-at choice w ∙ ap (λ (p : Checkpoint). p .index) (sym (one .2)) ∙ sym (set-index log t ok w (one .0) (one .1)))
 
-      after : Bool
-      after = leb (setIndex log t w) k
-
-      kept : Bool
-      kept = not (isLogged e)
-
-      below : Bool
-      below = ltb (e .send) (setIndex log t (e .peer))
-
-      go : (b : Bool) → (after && isReceive e && kept && below) ≡ b → b ≡ false
-      go false q = refl
-      go true q =
-          let three = and-true-left (after && isReceive e && kept) below q in
-          let two = and-true-left (after && isReceive e) kept three in
-          let receive = and-true-right after (isReceive e) two in
-          let mine = set-index log t ok w (number w) (covers .has w here) in
-          let peers = set-index log t ok (e .peer) (number (e .peer)) (covers .has (e .peer) (ok .sent w (k + 1) receive .within)) in
-          let start = leb-true (setIndex log t w) k (and-true-left after (isReceive e) two) in
-          let send = ltb-true (e .send) (setIndex log t (e .peer)) (and-true-right (after && isReceive e && kept) below q) in
-          sym (covers .logged w k (omega arith) inside receive (omega arith)) ∙ not-true (isLogged e) (and-true-right (after && isReceive e) kept three)
-
-  none-uncovered : (number : ℕ → ℕ) → Covers log t number → anyBelow (workerUncovered log t) (workerCount log) ≡ false
-  unfolding workerUncovered
-  none-uncovered number covers =
-      any-every (workerUncovered log t) (workerCount log) (λ w h. any-every (uncovered log t w) (eventCount log w) (not-uncovered number covers w h))
-
-  -- the test holds exactly where identifier t covers
-  pub covering-iff : (coveringSet log t ≡ true) ↔ ((number : ℕ → ℕ) × Covers log t number)
-  unfolding coveringSet
-  covering-iff = (
-    (λ e.
-        let none = not-true (anyBelow (withoutSet log t) (workerCount log) || anyBelow (workerUncovered log t) (workerCount log)) e in
-        let has = present (or-false-left (anyBelow (withoutSet log t) (workerCount log)) (anyBelow (workerUncovered log t) (workerCount log)) none) in
-        (setNumber log t, all-logged (setNumber log t) has (or-false-right (anyBelow (withoutSet log t) (workerCount log)) (anyBelow (workerUncovered log t) (workerCount log)) none))),
-    (λ c. rw (none-without (c .0) (c .1 .has), none-uncovered (c .0) (c .1))),
+  choice-starts : ((choice : List Checkpoint) × StartableSet log t choice) ↔ Starts
+  choice-starts = (
+    (λ (choice, s).
+        let offered = s .isChoice .offered in
+        let same = same-indices choice (s .isChoice) (λ w h. (offered w h .0, choice-set choice s w h, offered w h .2)) in
+        ((λ w h. (offered w h .0, choice-set choice s w h)), rw same at (s .startable))),
+    (λ (has, startable).
+        let choice = tabulate setPoint (workerCount log) in
+        let point : (w : ℕ) → w < workerCount log → getD choice w initial ≡ setPoint w = λ w h. getD-tabulate setPoint (workerCount log) w initial h in
+        let same = same-indices choice (set-choice has) (λ w h. (setNumber log t w, found has w h, sym (point w h))) in (
+          choice,
+          record {
+            isChoice = set-choice has;
+            has = λ w h. ap (λ (p : Checkpoint). p .identifier) (point w h) ∙ set-identifier log t w (setNumber log t w) (found has w h);
+            startable = rw same startable;
+          },
+        )),
   )
+
+  -- the test holds exactly where identifier t covers ..
+  pub covering-iff : (coveringSet log t ≡ true) ↔ ((number : ℕ → ℕ) × Covers log t number)
+  covering-iff = (λ e. covers-starts .1 (test-starts .0 e), λ c. test-starts .1 (covers-starts .0 c))
+
+  -- .. and exactly where its checkpoints are a choice that is startable for the cut of all events
+  pub startable-set-iff : (coveringSet log t ≡ true) ↔ ((choice : List Checkpoint) × StartableSet log t choice)
+  startable-set-iff = (λ e. choice-starts .1 (test-starts .0 e), λ c. test-starts .1 (choice-starts .0 c))
+
+  -- both, of the test's answer
+  pub covers-when : (answer : ℕ) → (answer ≡ 1) ↔ (coveringSet log t ≡ true) → CoversWhenStartable log t answer
+  covers-when answer said =
+      record {
+        covers = (λ e. covering-iff .0 (said .0 e), λ c. said .1 (covering-iff .1 c));
+        startable = (λ e. startable-set-iff .0 (said .0 e), λ c. said .1 (startable-set-iff .1 c));
+      }

@@ -1,28 +1,25 @@
 -- The covering test as the code makes it: the first checkpoint with an identifier, and its index in a word for each worker.
 -- Assumes nothing.
-use mathlib.Core.Path.{_≡_, refl, sym, _∙_}
-use mathlib.Core.Bool.{Bool, true, false, not, _&&_, _||_, and-true}
+use mathlib.Core.Path.{_≡_, sym}
 use mathlib.Core.Logic.{⊎-elim}
 use mathlib.Core.List.{List, _++_}
-use Prim.Native.Nat.{ℕ, _+_, _<_}
+use Prim.Native.Nat.{ℕ, _+_}
 use native.Mathlib.Omega.{arith}
-use borrow.Author.Tests.{lt-ltb, le-ltb, eqb-true}
-use lib.Dec.{leb, ltb}
+use borrow.Author.Tests.{lt-ltb, le-ltb}
+use lib.Dec.{ltb}
 use lib.ListN.{List·getD-append}
-use Rattle.ranges.specs.Fold.{anyBelow, tabulate}
 use Rattle.ranges.proofs.Order.{lt-or-le}
-use Rattle.ranges.proofs.Any.{any-every, any-found, any-same}
+use Rattle.ranges.proofs.Any.{any-every, any-found}
 use Rattle.ranges.proofs.First.{IsFirst, first}
-use Rattle.ranges.proofs.Tabulate.{length-tabulate, getD-tabulate}
-use Rattle.log.specs.declared.Event.{Event}
-use Rattle.log.specs.Model.{Workers, workerCount, eventCount, eventOf, checkpointCount, checkpointOf, isReceive, isLogged, isUnlogged}
-use Rattle.log.proofs.Read.{worker-within, checkpoint-past}
+use Rattle.ranges.proofs.Tabulate.{length-tabulate}
+use Rattle.log.specs.Model.{Workers, workerCount, checkpointCount, checkpointOf}
+use Rattle.log.proofs.Read.{checkpoint-past}
 use Rattle.accept.specs.WellFormed.{WellFormed}
-use Rattle.lent.specs.Lent.{at}
-use Rattle.covering.specs.Covering.{isSet, withoutSet, setIndex, uncovered, workerUncovered}
-use Rattle.covering.specs.Inner.Looked.{firstSet, uncoveredIn, workerUncoveredIn}
-use Rattle.restore.proofs.Startable.{unlogged-receive}
-use Rattle.covering.proofs.CoveringSet.{set-index, set-none}
+use Rattle.restore.specs.Choice.{isStartable}
+use Rattle.covering.specs.Covering.{isSet, cutOfAll, withoutSet, setIndex, setStarts}
+use Rattle.covering.specs.Inner.Looked.{firstSet}
+use Rattle.restore.proofs.Startable.{startable-same}
+use Rattle.covering.proofs.CoveringSet.{set-index, set-none, cut-of-all}
 
 module _ (log : Workers) (t w : ℕ) where
   abbrev end : ℕ
@@ -51,43 +48,10 @@ module _ (log : Workers) (t w : ℕ) where
       (λ l. rw (checkpoint-past log w (firstSet log t w) (omega arith)) (sym (set-none log t w (λ c h. f .before c (omega arith)))))
       (lt-or-le (firstSet log t w) end)
 
--- an event of kind 2 is not of kind 3
-not-logged : (e : Event) → isUnlogged e ≡ true → isLogged e ≡ false
-unfolding isUnlogged isLogged
-not-logged e q = rw (eqb-true (e .kind) 2 q)
-
-not-receive : (after logged here there : Bool) → (after && false && here) ≡ (after && (false || logged) && not logged && there)
-not-receive true true here there = refl
-not-receive true false here there = refl
-not-receive false true here there = refl
-not-receive false false here there = refl
-
-module _ (log : Workers) (ok : WellFormed log) (t : ℕ) (indices : List ℕ) (stored : (v : ℕ) → v < workerCount log → at indices v ≡ setIndex log t v) where
-  uncovered-in : (w k : ℕ) → k < eventCount log w → uncoveredIn log indices w k ≡ uncovered log t w k
-  unfolding uncoveredIn uncovered isReceive
-  uncovered-in w k inside = rw (stored w (worker-within log w k inside)) (go (isUnlogged e) refl)
-    where
-      e : Event
-      e = eventOf log w (k + 1)
-
-      after : Bool
-      after = leb (setIndex log t w) k
-
-      go : (b : Bool) → isUnlogged e ≡ b
-          → (after && b && ltb (e .send) (at indices (e .peer))) ≡ (after && (b || isLogged e) && not (isLogged e) && ltb (e .send) (setIndex log t (e .peer)))
-      go true q =
-          rw (not-logged e q, stored (e .peer) (ok .sent w (k + 1) (unlogged-receive e q) .within), and-true (after && true))
-      go false q = not-receive after (isLogged e) (ltb (e .send) (at indices (e .peer))) (ltb (e .send) (setIndex log t (e .peer)))
-
-  -- the test with the indices in words is the test
-  pub workers-uncovered : anyBelow (workerUncoveredIn log indices) (workerCount log) ≡ anyBelow (workerUncovered log t) (workerCount log)
-  unfolding workerUncoveredIn workerUncovered
-  workers-uncovered =
-      any-same (workerUncoveredIn log indices) (workerUncovered log t) (workerCount log)
-      (λ w h. any-same (uncoveredIn log indices w) (uncovered log t w) (eventCount log w) (uncovered-in w))
-
--- the words that hold the indices
-pub stored-at : (log : Workers) (t : ℕ) (rest : List ℕ) (v : ℕ) → v < workerCount log → at (tabulate (setIndex log t) (workerCount log) ++ rest) v ≡ setIndex log t v
-stored-at log t rest v h =
-    List·getD-append (tabulate (setIndex log t) (workerCount log)) rest 0 v (rw (length-tabulate (setIndex log t) (workerCount log)) h)
-    ∙ getD-tabulate (setIndex log t) (workerCount log) v 0 h
+-- the words that hold the indices are startable where the indices are
+pub startable-words : (log : Workers) → WellFormed log → (t : ℕ) (rest : List ℕ)
+    → isStartable log (cutOfAll log) (setStarts log t ++ rest) ≡ isStartable log (cutOfAll log) (setStarts log t)
+unfolding setStarts
+startable-words log ok t rest =
+    startable-same log ok (cutOfAll log) (cut-of-all log) (setStarts log t ++ rest) (setStarts log t)
+    (λ v h. List·getD-append (setStarts log t) rest 0 v (rw (length-tabulate (setIndex log t) (workerCount log)) h))

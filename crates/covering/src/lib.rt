@@ -1,20 +1,22 @@
 // The test whether the checkpoints with an identifier are a covering set.
 
 use causality::Test;
+use restore::choice::loses_send;
 use restore::choice::may_choose;
 ghost use mathlib.Core.Path.{_≡_};
 ghost use mathlib.Core.Bool.{false};
 ghost use mathlib.Core.List.{_++_};
 ghost use Prim.Native.Nat.{_<_, _≤_};
 ghost use lib.ListN.{length, drop};
-ghost use Rattle.ranges.specs.Fold.{anyBelow, tabulate};
+ghost use Rattle.ranges.specs.Fold.{anyBelow};
 ghost use Rattle.lent.specs.Lent.{orElse};
 ghost use Rattle.log.specs.Layout.{workersOf};
 ghost use Rattle.log.specs.Model.{workerCount, eventCount};
 ghost use Rattle.accept.specs.Refusal.{logRefusal};
 ghost use Rattle.causality.specs.Calls.{yesUnless};
-ghost use Rattle.covering.specs.Covering.{isSet, withoutSet, setIndex, coveringSet};
-ghost use Rattle.covering.specs.Inner.Looked.{firstSet, uncoveredIn, workerUncoveredIn};
+ghost use Rattle.restore.specs.Choice.{lostAt, workerLost, isStartable};
+ghost use Rattle.covering.specs.Covering.{isSet, cutOfAll, withoutSet, setStarts, coveringSet};
+ghost use Rattle.covering.specs.Inner.Looked.{firstSet};
 
 // Whether checkpoint c of worker w may be chosen and has this identifier.
 fn is_set(log: &[u8], identifier: u32, w: usize, c: u32) -> bool
@@ -49,8 +51,7 @@ fn some_without_set(log: &[u8], identifier: u32, indices: &mut [u32]) -> bool
     requires { ⌜ (logRefusal (now log) ≡ 0) × (workerCount (workersOf (now log)) ≤ length (now indices)) ⌝ }
     ensures answer { λ r. ⌜ r ≡ anyBelow (withoutSet (workersOf (now (log .entry))) identifier) (workerCount (workersOf (now (log .entry)))) ⌝ }
     ensures indices { λ r. ⌜ (r ≡ false → now (indices .exit)
-        ≡ tabulate (setIndex (workersOf (now (log .entry))) identifier) (workerCount (workersOf (now (log .entry))))
-        ++ drop (workerCount (workersOf (now (log .entry)))) (now (indices .entry))) ⌝ }
+        ≡ setStarts (workersOf (now (log .entry))) identifier ++ drop (workerCount (workersOf (now (log .entry)))) (now (indices .entry))) ⌝ }
 {
     let n = log::worker_count(log);
     let mut w: usize = 0;
@@ -66,31 +67,29 @@ fn some_without_set(log: &[u8], identifier: u32, indices: &mut [u32]) -> bool
     false
 }
 
-// Whether event k + 1 of worker w is a receive without its data after its worker's index, of a send below the sender's index.
-fn is_uncovered(log: &[u8], indices: &[u32], w: usize, k: u32) -> bool
-    requires { ⌜ (logRefusal (now log) ≡ 0) × (workerCount (workersOf (now log)) ≤ length (now indices))
+// Whether event k + 1 of worker w is after its worker's start and loses its send.
+fn is_lost(log: &[u8], starts: &[u32], w: usize, k: u32) -> bool
+    requires { ⌜ (logRefusal (now log) ≡ 0) × (workerCount (workersOf (now log)) ≤ length (now starts))
         × (k < eventCount (workersOf (now log)) w) ⌝ }
-    ensures answer { λ r. ⌜ r ≡ uncoveredIn (workersOf (now (log .entry))) (now (indices .entry)) w k ⌝ }
+    ensures answer { λ r. ⌜ r ≡ lostAt (workersOf (now (log .entry))) (now (starts .entry)) w k ⌝ }
 {
-    if k < indices[w] {
+    let x = k + 1;
+    if x <= starts[w] {
         return false;
     }
-    let e = log::event_at(log, w, k + 1);
-    if !log::is_unlogged(e) {
-        return false;
-    }
-    e.send < indices[e.peer as usize]
+    let e = log::event_at(log, w, x);
+    loses_send(e, starts[e.peer as usize])
 }
 
 // Whether worker w has such an event.
-fn worker_uncovered(log: &[u8], indices: &[u32], w: usize) -> bool
-    requires { ⌜ (logRefusal (now log) ≡ 0) × (workerCount (workersOf (now log)) ≤ length (now indices)) ⌝ }
-    ensures answer { λ r. ⌜ r ≡ workerUncoveredIn (workersOf (now (log .entry))) (now (indices .entry)) w ⌝ }
+fn worker_lost(log: &[u8], starts: &[u32], w: usize) -> bool
+    requires { ⌜ (logRefusal (now log) ≡ 0) × (workerCount (workersOf (now log)) ≤ length (now starts)) ⌝ }
+    ensures answer { λ r. ⌜ r ≡ workerLost (workersOf (now (log .entry))) (cutOfAll (workersOf (now (log .entry)))) (now (starts .entry)) w ⌝ }
 {
     let count = log::event_count(log, w);
     let mut k: u32 = 0;
     while k < count {
-        if is_uncovered(log, indices, w, k) {
+        if is_lost(log, starts, w, k) {
             return true;
         }
         k += 1;
@@ -98,21 +97,20 @@ fn worker_uncovered(log: &[u8], indices: &[u32], w: usize) -> bool
     false
 }
 
-// Whether some worker has such an event.
-fn some_uncovered(log: &[u8], indices: &[u32]) -> bool
-    requires { ⌜ (logRefusal (now log) ≡ 0) × (workerCount (workersOf (now log)) ≤ length (now indices)) ⌝ }
-    ensures answer { λ r. ⌜ r
-        ≡ anyBelow (workerUncoveredIn (workersOf (now (log .entry))) (now (indices .entry))) (workerCount (workersOf (now (log .entry)))) ⌝ }
+// Whether the starts are startable for the cut of all events.
+fn is_startable(log: &[u8], starts: &[u32]) -> bool
+    requires { ⌜ (logRefusal (now log) ≡ 0) × (workerCount (workersOf (now log)) ≤ length (now starts)) ⌝ }
+    ensures answer { λ r. ⌜ r ≡ isStartable (workersOf (now (log .entry))) (cutOfAll (workersOf (now (log .entry)))) (now (starts .entry)) ⌝ }
 {
     let n = log::worker_count(log);
     let mut w: usize = 0;
     while w < n {
-        if worker_uncovered(log, indices, w) {
-            return true;
+        if worker_lost(log, starts, w) {
+            return false;
         }
         w += 1;
     }
-    false
+    true
 }
 
 // Whether the checkpoints with this identifier are a covering set.
@@ -124,7 +122,7 @@ fn is_covering(log: &[u8], identifier: u32) -> bool
     if some_without_set(log, identifier, &mut indices) {
         return false;
     }
-    !some_uncovered(log, &indices)
+    is_startable(log, &indices)
 }
 
 // Whether the checkpoints with this identifier are a covering set; the identifier 0 means the initial states. `others` is the refusal of

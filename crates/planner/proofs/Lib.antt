@@ -1,5 +1,6 @@
 pub mod TubeTable
 pub mod Answered
+pub mod Covered
 pub mod StepWords
 pub mod Restored
 pub mod SameAnswers

@@ -12,10 +12,10 @@ use Rattle.accept.proofs.Tube.{tube-workers}
 use Rattle.causality.specs.Cut.{namedOf, component, vector, lacks, workerLacks, isConsistent}
 use Rattle.lower_cut.specs.Figure2.{turnIf, turn, visit, visitAt, beginning, figure2}
 use Rattle.upper_line.specs.Upper.{happened, upperAt, upperLine}
-use Rattle.restore.specs.Choice.{mayChoose, losesSend}
+use Rattle.restore.specs.Choice.{mayChoose, losesSend, lostAt, workerLost, isStartable}
 use Rattle.restore.specs.Plan.{loses, workerLoses, someLoses, usable, indexIf, rolledBackAt, rolledBack, planStarts}
 use Rattle.cost.specs.Cost.{replayed, eventsOf, eventUnits, workerUnits, unitsOf, builtIn}
-use Rattle.covering.specs.Covering.{isSet, withoutSet, indexOf, setIndex, uncovered, workerUncovered, coveringSet}
+use Rattle.covering.specs.Covering.{isSet, cutOfAll, withoutSet, indexOf, setIndex, setStarts, coveringSet}
 use Rattle.replay.specs.Machine.{receiveAnswer, eventAnswer, answerOf}
 use Rattle.planner.specs.Tube.{tubeLogged, TubeTable}
 
@@ -40,8 +40,8 @@ logged-model = refl
 computed : TubeTable (tubeLog .workers) logged
 unfolding anyBelow maxBelow sumBelow firstBelow lastBelow tabulate sweep workerCount worker roleOf eventCount eventOf checkpointCount checkpointOf
     isSend isUnlogged isLogged isReceive namedOf component vector lacks workerLacks isConsistent turnIf turn visit visitAt beginning figure2
-    happened upperAt upperLine mayChoose losesSend loses workerLoses someLoses usable indexIf rolledBackAt rolledBack planStarts replayed eventsOf
-    eventUnits workerUnits unitsOf builtIn isSet withoutSet indexOf setIndex uncovered workerUncovered coveringSet receiveAnswer eventAnswer
+    happened upperAt upperLine mayChoose loses workerLoses someLoses usable indexIf rolledBackAt rolledBack planStarts replayed eventsOf
+    eventUnits workerUnits unitsOf builtIn losesSend lostAt workerLost isStartable isSet cutOfAll withoutSet indexOf setIndex setStarts coveringSet receiveAnswer eventAnswer
     answerOf
 computed =
     record {
@@ -55,8 +55,9 @@ computed =
       t8 = refl;
       t9 = refl;
       t10 = refl;
+      set1 = refl;
     }
 
--- T1 to T10, together
+-- T1 to T10 and set 1, together
 pub tube-table : TubeTable (workersOf tube) (workersOf tubeLogged)
 tube-table = rw (tube-workers, logged-model) computed

@@ -1,4 +1,5 @@
--- The table of document 01, "The tube log": what the definitions give for it, with the breakpoint at event 2 of worker 0.
+-- The table of document 01, "The tube log", with set 1 of document 02: what the definitions give for it, with the breakpoint at event 2 of
+-- worker 0.
 -- Assumes nothing.
 use mathlib.Core.Path.{_≡_}
 use mathlib.Core.Bool.{true, false}
@@ -44,3 +45,5 @@ pub record TubeTable (log logged : Workers) : Type 0 where
   pub t9 : answerOf log (lowerCut log 0 2) (tubeStarts log) (tubeStarts log) 0 ≡ 22
   -- "set 0 covers"
   pub t10 : coveringSet log 0 ≡ true
+  -- "The tube log's set 1 becomes a no"
+  pub set1 : coveringSet log 1 ≡ false

@@ -21,7 +21,7 @@ ghost use Rattle.lower_cut.specs.Figure2.{lowerCut};
 ghost use Rattle.upper_line.specs.Upper.{upperLine};
 ghost use Rattle.causality.specs.Refusals.{lineRefusal, searchRefusal, testRefusal};
 ghost use Rattle.lower_cut.specs.Calls.{foundCut, cutTotals};
-ghost use Rattle.covering.specs.Covering.{coveringSet};
+ghost use Rattle.covering.specs.Covering.{coveringSet, CoversWhenStartable};
 ghost use Rattle.restore.specs.Calls.{foundPlan, planTotals};
 ghost use Rattle.replay.specs.Machine.{listed, answerWord, stepWords};
 ghost use Rattle.replay.specs.Calls.{stepAnswer, stepAfter, stepsRefusal, restoreRefusal, machineRun, machineAfter};
@@ -167,6 +167,7 @@ pub extern "C" fn cut_test(log: &[u8], words: &[u32], answer: &mut [u32]) -> u32
 pub extern "C" fn covers(log: &[u8], identifier: u32, answer: &mut [u32]) -> u32
     ensures answer { λ r. ⌜ r ≡ orElse (logRefusal (now (log .entry))) (wordsRefusal (length (now (answer .entry))) 1) ⌝ }
     ensures word { λ r. ⌜ now (answer .exit) ≡ unlessRefused r (wordOf (coveringSet (workersOf (now (log .entry))) identifier) ∷ []) (now (answer .entry)) ⌝ }
+    ensures exactly { λ r. ⌜ (r ≡ 0 → CoversWhenStartable (workersOf (now (log .entry))) identifier (at (now (answer .exit)) 0)) ⌝ }
 {
     let others = lent::words_refusal(answer.len(), 1);
     write_answer(covering::covers(log, identifier, others), answer)

@@ -6,7 +6,7 @@ use mathlib.Core.Logic.{⊎-elim, _↔_}
 use mathlib.Core.List.{List, _∷_}
 use Prim.Native.Nat.{ℕ, zero, suc, _+_, _<_, _≤_, max}
 use native.Mathlib.Omega.{arith}
-use borrow.Author.Tests.{ltb-true, ltb-false, le-leb, lt-leb, leb-true, leb-false, not-true, not-false}
+use borrow.Author.Tests.{ltb-true, ltb-false, le-leb, lt-leb, leb-true, leb-false, not-true}
 use lib.Dec.{leb, ltb}
 use lib.ListN.{length, getD, replicate, length-replicate, List·getD-map, List·getD-eq-default}
 use lib.Seq.{ext-getD}
@@ -34,13 +34,6 @@ starts-at choice w = List·getD-map (λ (p : Checkpoint). p .index) choice w ini
 pub unlogged-receive : (e : Event) → isUnlogged e ≡ true → isReceive e ≡ true
 unfolding isReceive
 unlogged-receive e q = rw q
-
--- the sender of such an event is one of the workers; e and b are what the code has of the event and of the test
-pub sender-within : (log : Workers) → WellFormed log → (w x : ℕ) (e : Event) (b : Bool) → e ≡ eventOf log w x → b ≡ isUnlogged e → not b ≡ false
-    → e .peer < workerCount log
-sender-within log ok w x e b event test left =
-    let receive = unlogged-receive e (sym test ∙ not-false b left) in
-    rw event (ok .sent w x (rw event at receive) .within)
 
 -- a receive that loses its send where the sender starts at this index
 pub record LosesSend (e : Event) (start : ℕ) : Type 0 where

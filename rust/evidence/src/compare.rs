@@ -846,6 +846,8 @@ pub struct Seen {
     finished: u64,
     unfinished: u64,
     refused_steps: u64,
+    /// Sets of checkpoints by the least of the sends that are compared: below its sender's checkpoint, at it, above it.
+    sets: [u64; 3],
 }
 
 /// Counts a number.
@@ -890,6 +892,30 @@ impl Seen {
     /// Fails where no packing returned one of the numbers.
     pub fn has_packed(&self, numbers: impl IntoIterator<Item = u32>) {
         has(&self.packed, numbers);
+    }
+
+    /// Counts the covering test of an identifier that all workers have, where some receive without its data is compared: it is after its
+    /// worker's checkpoint, and its sender's checkpoint has events before it.
+    pub fn add_set(&mut self, log: &Log, identifier: u32) {
+        let indices = log.workers.iter().map(|w| w.index_of(identifier));
+        let Some(set) = indices.collect::<Option<Vec<u32>>>() else {
+            return;
+        };
+        let workers = log.workers.iter().zip(&set);
+        let after = workers.flat_map(|(worker, &index)| worker.events(index, worker.count()));
+        let least = after
+            .filter(|event| event.kind == 2 && set[event.other()] > 0)
+            .map(|event| event.send.cmp(&set[event.other()]))
+            .min();
+        if let Some(least) = least {
+            self.sets[(1 + least as i8) as usize] += 1;
+        }
+    }
+
+    /// Fails where at most this many sets covered, or did not for a send below its sender's checkpoint, or for one at it and none below.
+    pub fn has_sets(&self, times: u64) {
+        let few = self.sets.iter().any(|&counted| counted <= times);
+        assert!(!few, "sets by their least send: {:?}", self.sets);
     }
 
     /// Fails where one of the numbers was never returned, so that a test that has stopped to reach its cases is noticed.
@@ -1090,13 +1116,21 @@ fn tests(random: &mut Random, log: &[u8], accepted: &Log, seen: &mut Seen) {
         .flat_map(|worker| worker.checkpoints())
         .map(|checkpoint| checkpoint.identifier)
         .collect();
+    let of_all = |&t: &u32| accepted.workers.iter().all(|w| w.index_of(t).is_some());
+    let sets: Vec<u32> = recorded.iter().copied().filter(of_all).collect();
     let mut identifiers = vec![0, 1, random.word()];
-    if !recorded.is_empty() {
-        identifiers.extend((0..3).map(|_| random.pick(&recorded)));
+    for choices in [recorded, sets] {
+        if !choices.is_empty() {
+            identifiers.extend((0..3).map(|_| random.pick(&choices)));
+        }
     }
     for identifier in identifiers {
         let answer = random.pick(&[0, 1, 1, 1, 2, 3]);
-        seen.add(covers(random, log, identifier, answer));
+        let number = covers(random, log, identifier, answer);
+        seen.add(number);
+        if number == 0 {
+            seen.add_set(accepted, identifier);
+        }
     }
 }
 

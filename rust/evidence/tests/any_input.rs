@@ -32,6 +32,7 @@ fn small_valid_logs() {
     seen.has_replayed(ARGUMENTS);
     seen.has_replayed([15]);
     seen.has_packed(PACKINGS);
+    seen.has_sets(1_000);
 }
 
 #[test]
@@ -48,6 +49,7 @@ fn larger_valid_logs() {
     seen.has_replayed(ARGUMENTS);
     seen.has_replayed([15]);
     seen.has_packed(PACKINGS);
+    seen.has_sets(20);
 }
 
 /// The numbers of a log as the header has its form: in form 2 only 24, in form 1 none.

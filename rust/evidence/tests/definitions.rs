@@ -1,5 +1,6 @@
-//! The reference against the definitions of document 01 and of form 2, taken literally, on small logs.
+//! The reference against the definitions of documents 01 and 02, taken literally, on small logs.
 
+use evidence::compare::Seen;
 use evidence::damage::damaged;
 use evidence::description::{packed_length, set_form, Description, Worker};
 use evidence::failure::{words, Call, Difference, Meaning};
@@ -185,22 +186,27 @@ impl Model {
         units
     }
 
-    fn covers(&self, t: u32) -> bool {
-        let index = |w: usize| {
-            if t == 0 {
-                return Some(0);
-            }
-            let mut checkpoints = self.workers[w].checkpoints.iter();
-            checkpoints.find(|c| c.1 == t).map(|c| c.0)
+    /// The index of each worker's checkpoint t, where every worker has one; for t = 0 the initial states are meant.
+    fn set(&self, t: u32) -> Option<Vec<u32>> {
+        if t == 0 {
+            return Some(vec![0; self.workers.len()]);
+        }
+        let index = |worker: &Worker| {
+            let checkpoint = worker.checkpoints.iter().find(|c| c.1 == t);
+            checkpoint.map(|c| c.0)
         };
-        (0..self.workers.len()).all(|w| {
-            index(w).is_some_and(|own| {
-                self.workers[w].events[own as usize..].iter().all(|event| {
-                    let sender = index(usize::from(event.peer));
-                    event.kind == 1
-                        || event.kind == 3
-                        || sender.is_some_and(|checkpoint| event.send >= checkpoint)
-                })
+        self.workers.iter().map(index).collect()
+    }
+
+    fn covers(&self, t: u32) -> bool {
+        let Some(set) = self.set(t) else {
+            return false;
+        };
+        self.workers.iter().zip(&set).all(|(worker, &own)| {
+            worker.events[own as usize..].iter().all(|event| {
+                let is_receive = event.kind == 2 || event.kind == 3;
+                let counts = is_receive && event.send <= set[usize::from(event.peer)];
+                !counts || event.kind == 3
             })
         })
     }
@@ -412,7 +418,7 @@ fn plan_and_steps(
     ]);
 }
 
-/// Compares cut tests, covering tests and steps from any state.
+/// Compares cut tests and steps from any state.
 fn tests(model: &Model, log: &[u8], random: &mut Random) {
     let n = model.workers.len();
     let mut yes = [9];
@@ -447,12 +453,42 @@ fn tests(model: &Model, log: &[u8], random: &mut Random) {
             step.same([differ(POSITIONS, &after, &positions)]);
         }
     }
+}
+
+#[test]
+fn covering_sets_of_small_logs() {
+    let mut seen = Seen::default();
+    for round in 0..10_000 {
+        let mut random = Random::round(7, round);
+        let description = small(&mut random);
+        let log = description.lay_out(1, &mut random);
+        covering_sets(&Model::new(description), &log, &random, &mut seen);
+    }
+    seen.has_sets(300);
+}
+
+/// Compares covering tests. An identifier covers exactly when all workers have it and these checkpoints are startable for the cut of
+/// all events, and then a replay of all events from them works.
+fn covering_sets(model: &Model, log: &[u8], random: &Random, seen: &mut Seen) {
+    let accepted = reference::accept(log).expect("an accepted log");
+    let all: Vec<u32> = (0..model.workers.len()).map(|w| model.count(w)).collect();
     for t in 0..12 {
+        let mut yes = [9];
         let number = reference::covers(log, t, &mut yes);
         let arguments = [("identifier", t.into())];
-        let test = call(random, log, "reference::covers", &arguments);
-        test.returned(number, 0);
-        test.same([differ(ANSWER, &yes, &[u32::from(model.covers(t))])]);
+        let call = |name| call(random, log, name, &arguments);
+        let covers = model.covers(t);
+        call("reference::covers").returned(number, 0);
+        call("reference::covers").same([differ(ANSWER, &yes, &[u32::from(covers)])]);
+        let set = model.set(t);
+        let holds = |test: fn(&Model, &[u32], &[u32]) -> bool| {
+            set.as_ref().is_some_and(|set| test(model, &all, set))
+        };
+        let (startable, works) = (holds(Model::is_startable), holds(Model::works));
+        call("a set").holds(covers == startable && covers == works, || {
+            format!("that it covers is {covers}, that it is startable is {startable}, that it works is {works}")
+        });
+        seen.add_set(&accepted, t);
     }
 }
 

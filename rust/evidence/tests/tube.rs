@@ -1,4 +1,4 @@
-//! The values of document 01 for the tube log in both forms, of the reference and of the exported functions.
+//! The values of documents 01 and 02 for the tube log in both forms, of the reference and of the exported functions.
 
 use evidence::description::{set_form, Description, Event};
 use evidence::sides::{
@@ -18,10 +18,18 @@ fn tube(form: u16) -> Vec<u8> {
     log
 }
 
-/// The tube log in a form with receive 2/2 of kind 3: event 2 of worker 1.
-fn with_data_logged(form: u16) -> Vec<u8> {
+/// Receives of the tube log, worker and event: that of 2/2 and that of 1/1.
+const RECEIVE_OF_2_2: (usize, usize) = (1, 2);
+const RECEIVE_OF_1_1: (usize, usize) = (2, 3);
+
+/// The tube log in a form with these receives of kind 3.
+fn with_data_logged(form: u16, receives: &[(usize, usize)]) -> Vec<u8> {
     let mut description = Description::tube();
-    description.workers[1].events[1].kind = 3;
+    for &(worker, event) in receives {
+        let kind = &mut description.workers[worker].events[event - 1].kind;
+        assert_eq!(*kind, 2);
+        *kind = 3;
+    }
     description.pack_as(form)
 }
 
@@ -58,7 +66,7 @@ fn t6_and_t7(form: u16, plan: WithTotals) {
     assert_eq!(words[9], 9);
     assert_eq!(totals, [3, 5, 15, 7, 9]);
 
-    let log = with_data_logged(form);
+    let log = with_data_logged(form, &[RECEIVE_OF_2_2]);
     assert_eq!(plan(&log, 0, 2, &mut words, &mut [0; 9], &mut totals), 0);
     assert_eq!(words, [2, 1, 1, 3, 1, 1, 2, 2, 1, 9]);
     assert_eq!(totals, [3, 3, 13, 7, 9]);
@@ -160,11 +168,21 @@ fn plan_and_steps(log: &[u8], restore_and_replay: RestoreAndReplay) {
     assert_eq!((rows, rest), (&expected[..], &[9][..]));
 }
 
-fn t10(log: &[u8], covers: Covers) {
-    let mut yes = [9; 2];
-    for (identifier, answer) in [(0, 1), (1, 1), (2, 0)] {
-        assert_eq!(covers(log, identifier, &mut yes), 0);
-        assert_eq!(yes, [answer, 9]);
+/// Sends 2/2 and 1/1 are the last events before their senders' checkpoints 1, so set 1 covers only with the data of both logged.
+fn t10(form: u16, covers: Covers) {
+    let both = [RECEIVE_OF_2_2, RECEIVE_OF_1_1];
+    for (logged, answers) in [
+        (&[][..], [1, 0, 0]),
+        (&both[..1], [1, 0, 0]),
+        (&both[1..], [1, 0, 0]),
+        (&both, [1, 1, 0]),
+    ] {
+        let log = with_data_logged(form, logged);
+        for (identifier, answer) in (0..).zip(answers) {
+            let mut yes = [9; 2];
+            assert_eq!(covers(&log, identifier, &mut yes), 0);
+            assert_eq!(yes, [answer, 9]);
+        }
     }
 }
 
@@ -191,19 +209,20 @@ fn the_stored_bytes_are_the_described_log() {
     assert_eq!(TUBE, Description::tube().pack());
 }
 
-/// The values of document 01, which are those of both forms.
+/// The values, which are those of both forms.
 fn values(calls: &Calls) {
     for form in [1, 2] {
         let log = &tube(form);
         assert_eq!((calls.log_refusal)(log), 0);
-        assert_eq!((calls.log_refusal)(&with_data_logged(form)), 0);
+        let logged = with_data_logged(form, &[RECEIVE_OF_2_2]);
+        assert_eq!((calls.log_refusal)(&logged), 0);
         t1_to_t3(log, calls.vector);
         t4(log, calls.lower_cut);
         t5(log, calls.upper_line);
         t6_and_t7(form, calls.plan);
         t8(log, calls.cut_test);
         t9(log, calls.step);
-        t10(log, calls.covers);
+        t10(form, calls.covers);
         list_of_steps(log, calls.steps);
         plan_and_steps(log, calls.restore_and_replay);
         packed(log, calls.pack);

@@ -90,6 +90,14 @@ impl Event {
         }
     }
 
+    /// Whether the event can't be replayed from starts, given by worker: a receive without its data logged, of a send at or below
+    /// its sender's start, which is not made again. Any other event gets a send above every start, which is faster than a branch on
+    /// the kind.
+    pub(crate) fn is_lost(&self, start: impl Fn(usize) -> u32) -> bool {
+        let above = u64::from(self.kind != 2) << 32;
+        above | u64::from(self.send) <= u64::from(start(self.other()))
+    }
+
     /// Whether the event is a receive of an accepted log.
     pub fn is_receive(&self) -> bool {
         self.kind != 1

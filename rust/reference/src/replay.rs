@@ -38,14 +38,11 @@ impl Machine<'_> {
             return 21;
         }
         let event = self.log.workers[w].event(self.positions[w] + 1);
-        if event.kind == 2 {
-            let sender = event.other();
-            if event.send > self.positions[sender] {
-                return 22;
-            }
-            if event.send <= self.start(sender) {
-                return 23;
-            }
+        if event.kind == 2 && event.send > self.positions[event.other()] {
+            return 22;
+        }
+        if event.is_lost(|sender| self.start(sender)) {
+            return 23;
         }
         self.positions[w] += 1;
         0

@@ -8,34 +8,28 @@ const UNITS: [[u64; 3]; 4] = [[2, 3, 5], [2, 4, 6], [3, 8, 9], [2, 5, 7]];
 
 /// The starts of the latest startable choice.
 ///
-/// For each worker `needed` is the smallest of its sends that a replayed kind 2 receive names. A start has to lie below it, so a
-/// smaller `needed` opens more events of the worker, whose receives may need earlier sends, until no worker is left to look at.
+/// At first each worker has its latest checkpoint within the cut. A replayed receive that is lost puts its sender's start back below
+/// the send, which opens more events of the sender, whose receives may be lost, until no worker is left to look at.
 fn starts(log: &Log, cut: &[u32]) -> Vec<Checkpoint> {
     let n = log.size();
-    let mut needed = vec![u32::MAX; n];
-    let mut starts = vec![Checkpoint::default(); n];
+    let mut starts: Vec<Checkpoint> = (0..n).map(|w| log.workers[w].latest(cut[w])).collect();
     let mut opened = cut.to_vec();
     let mut waiting: Vec<usize> = (0..n).collect();
     let mut is_waiting = vec![true; n];
     while let Some(w) = waiting.pop() {
         is_waiting[w] = false;
-        let worker = &log.workers[w];
-        let start = worker.latest(cut[w].min(needed[w] - 1));
-        starts[w] = start;
-        if start.index >= opened[w] {
-            continue;
-        }
-        for event in worker.events(start.index, opened[w]) {
-            let sender = event.other();
-            if event.kind == 2 && event.send < needed[sender] {
-                needed[sender] = event.send;
+        let start = starts[w].index;
+        for event in log.workers[w].events(start, opened[w]) {
+            if event.is_lost(|sender| starts[sender].index) {
+                let sender = event.other();
+                starts[sender] = log.workers[sender].latest(event.send - 1);
                 if !is_waiting[sender] {
                     is_waiting[sender] = true;
                     waiting.push(sender);
                 }
             }
         }
-        opened[w] = start.index;
+        opened[w] = start;
     }
     starts
 }
@@ -104,6 +98,8 @@ fn try_covers(log: &[u8], identifier: u32, yes: &mut [u32]) -> Result<(), u32> {
     Ok(())
 }
 
+/// Whether every worker has a checkpoint with the identifier, and no receive after its worker's one is lost from them. For 0 the
+/// initial states are meant.
 fn is_covering(log: &Log, identifier: u32) -> bool {
     let set: Option<Vec<u32>> = log
         .workers
@@ -116,6 +112,6 @@ fn is_covering(log: &Log, identifier: u32) -> bool {
     log.workers.iter().zip(&set).all(|(worker, &index)| {
         worker
             .events(index, worker.count())
-            .all(|event| event.kind != 2 || event.send >= set[event.other()])
+            .all(|event| !event.is_lost(|sender| set[sender]))
     })
 }

@@ -114,10 +114,20 @@ impl<'a> Log<'a> {
     }
 
     /// Whether an identifier covers: every worker has a checkpoint with it, and every receive after its worker's checkpoint, of a
-    /// send with index smaller than the sender's checkpoint, has its data logged. Identifier 0 means the initial states.
+    /// send with index smaller than or equal to the sender's checkpoint, has its data logged. Identifier 0 means the initial states.
     ///
-    /// This is a test of the checkpoints alone. It does not say that a replay from them comes to an end: a receive of the send
-    /// whose index equals the sender's checkpoint is not looked at.
+    /// A replay of all events can start from the checkpoints of an identifier that covers.
+    ///
+    /// ```
+    /// use restore_planner::Log;
+    ///
+    /// # let bytes = include_bytes!(concat!(env!("CARGO_MANIFEST_DIR"), "/examples/tube.log"));
+    /// let log = Log::new(bytes)?;
+    /// assert!(log.covers(0)?);
+    /// // Send 2/2 is the last event before worker 2's checkpoint 1, and worker 1 receives it after its own.
+    /// assert!(!log.covers(1)?);
+    /// # Ok::<(), restore_planner::Refusal>(())
+    /// ```
     ///
     /// # Errors
     ///

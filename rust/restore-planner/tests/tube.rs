@@ -308,19 +308,69 @@ fn the_cut_test_and_the_covering_test() {
     assert_eq!(log.is_consistent(&[2, 3]), Err(Refusal::Words));
     assert_eq!(log.is_consistent(&[2, 3, 4]), Err(Refusal::Cut));
     assert_eq!(log.covers(0), Ok(true));
+    assert_eq!(log.covers(1), Ok(false));
     assert_eq!(log.covers(2), Ok(false));
 }
 
-/// Set 1 covers, and yet a replay from its checkpoints loses the send whose index is the sender's checkpoint.
-#[test]
-fn a_covering_set_that_a_replay_cannot_start_from() {
-    assert_eq!(tube().covers(1), Ok(true));
-    let mut plan = tube_plan();
-    for (entry, start) in plan.workers.iter_mut().zip([1, 1, 2]) {
-        entry.start = start;
+/// Where the receives of 2/2, by worker 1, and of 1/1, by worker 2, stand in the tube log.
+const RECEIVE_OF_2_2: usize = 124;
+const RECEIVE_OF_1_1: usize = 192;
+
+/// The tube log with the data of the receives at these places logged.
+fn tube_with_data_logged(receives: &[usize]) -> Vec<u8> {
+    let mut bytes = TUBE.to_vec();
+    for &at in receives {
+        assert_eq!(bytes[at], 2);
+        bytes[at] = 3;
     }
-    let mut replay = Replay::new(&tube(), &plan).unwrap();
-    assert_eq!(replay.step(1), Ok(Step::Lost));
+    bytes
+}
+
+/// A replay of all events of a log with the tube log's event counts, from the checkpoints of set 1.
+fn replay_from_set_1<'a>(log: &Log<'a>) -> Replay<'a> {
+    let mut plan = tube_plan();
+    for (entry, (start, cut)) in plan.workers.iter_mut().zip([(1, 3), (1, 4), (2, 3)]) {
+        *entry = WorkerPlan {
+            cut,
+            start,
+            identifier: 1,
+        };
+    }
+    Replay::new(log, &plan).unwrap()
+}
+
+/// Sends 2/2 and 1/1 are the last events before their senders' checkpoints 1, so a replay from there does not make them again, and
+/// both are received after the receiver's checkpoint 1.
+#[test]
+fn sends_at_their_senders_checkpoints() {
+    assert_eq!(TUBE[RECEIVE_OF_2_2..][..8], [2, 2, 0, 0, 2, 0, 0, 0]);
+    assert_eq!(TUBE[RECEIVE_OF_1_1..][..8], [2, 1, 0, 0, 1, 0, 0, 0]);
+    for (logged, lost) in [
+        (&[][..], &[1, 2][..]),
+        (&[RECEIVE_OF_2_2], &[2]),
+        (&[RECEIVE_OF_1_1], &[1]),
+    ] {
+        let bytes = tube_with_data_logged(logged);
+        let log = Log::new(&bytes).unwrap();
+        assert_eq!(log.covers(1), Ok(false));
+        for &worker in lost {
+            assert_eq!(replay_from_set_1(&log).step(worker), Ok(Step::Lost));
+        }
+    }
+}
+
+/// With the data of both receives logged set 1 covers, and a replay from its checkpoints reaches the cut of all events.
+#[test]
+fn a_replay_of_all_events_from_a_covering_set() {
+    let bytes = tube_with_data_logged(&[RECEIVE_OF_2_2, RECEIVE_OF_1_1]);
+    let log = Log::new(&bytes).unwrap();
+    assert_eq!(log.covers(1), Ok(true));
+    let mut replay = replay_from_set_1(&log);
+    for worker in [2, 1, 1, 0, 0, 1] {
+        assert_eq!(replay.step(worker), Ok(Step::Done));
+    }
+    assert!(replay.is_finished());
+    assert_eq!(replay.positions(), [3, 4, 3]);
 }
 
 #[test]

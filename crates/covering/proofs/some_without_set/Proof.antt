@@ -12,7 +12,7 @@ use Rattle.ranges.proofs.Any.{any-none, any-more, any-found}
 use Rattle.ranges.proofs.Tabulate.{store-none, store-more, store-length}
 use Rattle.log.specs.Layout.{workersOf}
 use Rattle.accept.proofs.Accepted.{accepted-layout, well-formed}
-use Rattle.covering.specs.Covering.{withoutSet, setIndex}
+use Rattle.covering.specs.Covering.{withoutSet, setIndex, setStarts}
 use Rattle.covering.proofs.SetNumber.{without-number, index-number}
 use Rattle.covering.proofs.some_without_set.Statement.{statement}
 use Rattle.covering.proofs.some_without_set.Tie as tie
@@ -99,6 +99,7 @@ same-length-2 c =
     ∙ store-length _ (start .args .indices .now) _ (omega (arith, start .pre .1, c .before .before .worker-count .ensures .0))
 
 returns-2 : tie.Need-returns-2 Inv-loop μ-loop
+unfolding setStarts
 returns-2 c =
     let all = le-antisymm (c .before .loop .inv .0) (c .loop-test .left) ∙ c .before .before .worker-count .ensures .0 in
     (sym (rw all at (c .before .loop .inv .1)), λ q. rw all at (c .before .loop .inv .2))
