@@ -6,6 +6,7 @@
 //! since the processor learns the branches of one that is read again and again. The lent words are not cleared between runs; a call of
 //! the exported function and one of the reference have their own. Every call tests the whole log, so each ratio has that in it.
 //! The logs are packed; `pack_moved` is the packing of the same logs with their sections in the opposite order and gaps between them.
+//! `covers` is the test of an identifier that covers; of any other one it ends at the first receive that is lost.
 //!
 //! At the end the test of the log and the plan are timed on form 2 beside form 1 of the same logs, in the same place in memory;
 //! `cargo run --release --bin bench forms` times nothing else, and `bench pack` only the calls whose names begin so.
@@ -38,8 +39,16 @@ struct Case {
     list: Vec<u32>,
     /// All events: the longest consistent cut.
     cut: Vec<u32>,
-    /// An identifier that all workers have, the first such of the breakpoint's worker; 0 if there is none.
+    /// The first identifier that all workers have, if it covers; else 0, the initial states, which always cover. The test of a set that
+    /// covers looks at every event after it.
     identifier: u32,
+}
+
+/// Whether an identifier covers.
+fn covers(log: &[u8], identifier: u32) -> bool {
+    let mut yes = [0];
+    reference::covers(log, identifier, &mut yes);
+    yes == [1]
 }
 
 impl Case {
@@ -49,7 +58,8 @@ impl Case {
         let identifier = accepted.workers[worker]
             .checkpoints()
             .map(|checkpoint| checkpoint.identifier)
-            .find(|&t| accepted.workers.iter().all(|w| w.index_of(t).is_some()));
+            .find(|&t| accepted.workers.iter().all(|w| w.index_of(t).is_some()))
+            .filter(|&t| covers(&log, t));
         let cut = accepted.workers.iter().map(|w| w.count()).collect();
         let worker = worker as u32;
         let state = State::planned(&log, worker, event).expect("the plan of the breakpoint");
