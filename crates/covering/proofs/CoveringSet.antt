@@ -142,35 +142,35 @@ module _ (log : Workers) (t : ℕ) (ok : WellFormed log) where
       )
 
   -- ---- the property: what it excludes is a receive that loses its send
-  covers-starts : ((number : ℕ → ℕ) × Covers log t number) ↔ Starts
-  covers-starts = (
-    (λ (number, covers). (
-      (λ w h. (number w, covers .has w h)),
-      (λ w k after inside unlogged.
+  starts-covers : Starts → (number : ℕ → ℕ) × Covers log t number
+  starts-covers (has, startable) = (
+    setNumber log t,
+    record {
+      has = found has;
+      logged = λ w k after inside receive low.
           let e = eventOf log w (k + 1) in
-          let here = worker-within log w k (omega (arith, all-at log w)) in
-          let receive = unlogged-receive e unlogged in
+          let here = worker-within log w k inside in
           let there = ok .sent w (k + 1) receive .within in
-          let mine = start-at w (number w) here (covers .has w here) in
-          let peers = start-at (e .peer) (number (e .peer)) there (covers .has (e .peer) there) in
-          ⊎-elim
-          (λ l. l)
-          (λ l. absurd (false≢true (sym (not-logged e unlogged) ∙ covers .logged w k (omega arith) (omega (arith, all-at log w)) receive (omega arith))))
-          (lt-or-le (at (setStarts log t) (e .peer)) (e .send))),
-    )),
-    (λ (has, startable). (
-      setNumber log t,
-      record {
-        has = found has;
-        logged = λ w k after inside receive low.
-            let e = eventOf log w (k + 1) in
-            let here = worker-within log w k inside in
-            let there = ok .sent w (k + 1) receive .within in
-            let mine = start-at w (setNumber log t w) here (found has w here) in
-            let peers = start-at (e .peer) (setNumber log t (e .peer)) there (found has (e .peer) there) in
-            unless-unlogged e receive (λ unlogged. let above = startable w k (omega arith) (omega (arith, all-at log w)) unlogged in let no : ⊥ = omega arith in no);
-      },
-    )),
+          let mine = start-at w (setNumber log t w) here (found has w here) in
+          let peers = start-at (e .peer) (setNumber log t (e .peer)) there (found has (e .peer) there) in
+          unless-unlogged e receive (λ unlogged. let above = startable w k (omega arith) (omega (arith, all-at log w)) unlogged in let no : ⊥ = omega arith in no);
+    },
+  )
+
+  covers-starts : ((number : ℕ → ℕ) × Covers log t number) → Starts
+  covers-starts (number, covers) = (
+    (λ w h. (number w, covers .has w h)),
+    (λ w k after inside unlogged.
+        let e = eventOf log w (k + 1) in
+        let here = worker-within log w k (omega (arith, all-at log w)) in
+        let receive = unlogged-receive e unlogged in
+        let there = ok .sent w (k + 1) receive .within in
+        let mine = start-at w (number w) here (covers .has w here) in
+        let peers = start-at (e .peer) (number (e .peer)) there (covers .has (e .peer) there) in
+        ⊎-elim
+        (λ l. l)
+        (λ l. absurd (false≢true (sym (not-logged e unlogged) ∙ covers .logged w k (omega arith) (omega (arith, all-at log w)) receive (omega arith))))
+        (lt-or-le (at (setStarts log t) (e .peer)) (e .send))),
   )
 
   -- ---- the choice
@@ -226,7 +226,7 @@ module _ (log : Workers) (t : ℕ) (ok : WellFormed log) where
 
   -- the test holds exactly where identifier t covers ..
   pub covering-iff : (coveringSet log t ≡ true) ↔ ((number : ℕ → ℕ) × Covers log t number)
-  covering-iff = (λ e. covers-starts .1 (test-starts .0 e), λ c. test-starts .1 (covers-starts .0 c))
+  covering-iff = (λ e. starts-covers (test-starts .0 e), λ c. test-starts .1 (covers-starts c))
 
   -- .. and exactly where its checkpoints are a choice that is startable for the cut of all events
   pub startable-set-iff : (coveringSet log t ≡ true) ↔ ((choice : List Checkpoint) × StartableSet log t choice)

@@ -34,11 +34,11 @@ pub record StartableSet (log : Workers) (t : ℕ) (choice : List Checkpoint) : T
   pub has : (w : ℕ) → w < workerCount log → getD choice w initial .identifier ≡ t
   pub startable : Startable log (cutOfAll log) (startsOf choice)
 
--- the test: no worker is without a checkpoint t ..
+-- worker w is without a checkpoint t
 unfoldable pub withoutSet : Workers → ℕ → ℕ → Bool
 withoutSet log t w = not (anyBelow (isSet log t w) (checkpointCount log w + 1))
 
--- .. and the indices of these checkpoints are startable for the cut of all events
+-- the index of worker w's checkpoint t; and of each worker's, as starts
 unfoldable pub indexOf : Workers → ℕ → ℕ → ℕ
 indexOf log w c = checkpointOf log w c .index
 
@@ -48,6 +48,7 @@ setIndex log t w = lastBelow (isSet log t w) (indexOf log w) (checkpointCount lo
 unfoldable pub setStarts : Workers → ℕ → List ℕ
 setStarts log t = tabulate (setIndex log t) (workerCount log)
 
+-- the covering test: no worker is without a checkpoint t, and their indices are startable for the cut of all events
 unfoldable pub coveringSet : Workers → ℕ → Bool
 coveringSet log t = not (anyBelow (withoutSet log t) (workerCount log)) && isStartable log (cutOfAll log) (setStarts log t)
 

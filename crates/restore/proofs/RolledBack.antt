@@ -12,10 +12,9 @@ use lib.Dec.{leb, eqb}
 use lib.ListN.{length, List·getD-eq-default}
 use Rattle.ranges.proofs.Order.{lt-or-le}
 use Rattle.ranges.proofs.Any.{any-each, any-every}
-use Rattle.ranges.proofs.Bools.{and-true-left, and-true-right}
+use Rattle.ranges.proofs.Bools.{and-true-left, and-true-right, never-true}
 use Rattle.ranges.proofs.Max.{max-each, max-least, max-some}
 use Rattle.ranges.proofs.Tabulate.{length-tabulate, getD-tabulate, getD-tabulate-past}
-use Rattle.log.specs.declared.Event.{Event}
 use Rattle.log.specs.Model.{Workers, workerCount, eventOf, checkpointCount, checkpointOf, isUnlogged}
 use Rattle.log.proofs.Read.{worker-within, checkpoint-initial}
 use Rattle.accept.specs.WellFormed.{WellFormed}
@@ -48,24 +47,16 @@ module _ (log : Workers) (cut : List ℕ) (isCut : IsCut log cut) (starts : List
 
   loses-false : (v x : ℕ) → Keeps log cut starts v x → (w k : ℕ) → k < at cut w → loses log starts v x w k ≡ false
   unfolding loses
-  loses-false v x keeps w k inside = go _ refl
-    where
-      e : Event
-      e = eventOf log w (k + 1)
-
-      after : Bool
-      after = leb (at starts w) k
-
-      peer : Bool
-      peer = eqb (e .peer) v
-
-      go : (b : Bool) → (after && peer && losesSend e x) ≡ b → b ≡ false
-      go false q = refl
-      go true q =
-          let two = and-true-left (after && peer) (losesSend e x) q in
-          let lost = lost-send e x (and-true-right (after && peer) (losesSend e x) q) in
-          let more = keeps w k (leb-true (at starts w) k (and-true-left after peer two)) inside (lost .unlogged) (eqb-true (e .peer) v (and-true-right after peer two)) in
-          let no : ⊥ = omega (arith, lost .low) in absurd no
+  loses-false v x keeps w k inside =
+      let e = eventOf log w (k + 1) in
+      let after = leb (at starts w) k in
+      let peer = eqb (e .peer) v in
+      never-true (after && peer && losesSend e x)
+      (λ q.
+      let two = and-true-left (after && peer) (losesSend e x) q in
+      let lost = lost-send e x (and-true-right (after && peer) (losesSend e x) q) in
+      let more = keeps w k (leb-true (at starts w) k (and-true-left after peer two)) inside (lost .unlogged) (eqb-true (e .peer) v (and-true-right after peer two)) in
+      let no : ⊥ = omega (arith, lost .low) in no)
 
   lost-none : (v x : ℕ) → Keeps log cut starts v x → someLoses log cut starts v x ≡ false
   unfolding someLoses workerLoses

@@ -13,7 +13,7 @@ use lib.Seq.{ext-getD}
 use Rattle.ranges.specs.Fold.{anyBelow, tabulate}
 use Rattle.ranges.proofs.Order.{lt-or-le}
 use Rattle.ranges.proofs.Any.{any-each, any-every, any-same}
-use Rattle.ranges.proofs.Bools.{and-true-left, and-true-right}
+use Rattle.ranges.proofs.Bools.{and-true-left, and-true-right, never-true}
 use Rattle.ranges.proofs.Tabulate.{length-tabulate, getD-tabulate, getD-tabulate-past, getD-replicate-all}
 use Rattle.log.specs.declared.Event.{Event}
 use Rattle.log.specs.declared.Checkpoint.{Checkpoint}
@@ -67,21 +67,15 @@ module _ (e : Event) (start : ℕ) where
 module _ (log : Workers) (cut : List ℕ) (isCut : IsCut log cut) where
   kept-at : (starts : List ℕ) → Startable log cut starts → (w k : ℕ) → k < at cut w → lostAt log starts w k ≡ false
   unfolding lostAt
-  kept-at starts startable w k inside = go _ refl
-    where
-      e : Event
-      e = eventOf log w (k + 1)
-
-      after : Bool
-      after = leb (at starts w) k
-
-      go : (b : Bool) → (after && losesSend e (at starts (e .peer))) ≡ b → b ≡ false
-      go false q = refl
-      go true q =
-          let lost = lost-send e (at starts (e .peer)) (and-true-right after (losesSend e (at starts (e .peer))) q) in
-          let start = leb-true (at starts w) k (and-true-left after (losesSend e (at starts (e .peer))) q) in
-          let more = startable w k start inside (lost .unlogged) in
-          let no : ⊥ = omega (arith, lost .low) in absurd no
+  kept-at starts startable w k inside =
+      let e = eventOf log w (k + 1) in
+      let after = leb (at starts w) k in
+      let loses = losesSend e (at starts (e .peer)) in
+      never-true (after && loses)
+      (λ q.
+      let lost = lost-send e (at starts (e .peer)) (and-true-right after loses q) in
+      let more = startable w k (leb-true (at starts w) k (and-true-left after loses q)) inside (lost .unlogged) in
+      let no : ⊥ = omega (arith, lost .low) in no)
 
   -- the test tells the startable ones
   pub startable-iff : (starts : List ℕ) → (isStartable log cut starts ≡ true) ↔ Startable log cut starts

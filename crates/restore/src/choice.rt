@@ -27,8 +27,7 @@ fn above_starts(e: Event) -> u64
     4294967296
 }
 
-// Whether event e is a receive that loses its send where the sender starts at `start`. One comparison serves every kind, and a pass over
-// the events of a run has no branch on the kind.
+// Whether event e is a receive that loses its send where the sender starts at `start`. One comparison serves every kind.
 pub fn loses_send(e: Event, start: u32) -> bool
     ensures answer { λ r. ⌜ r ≡ losesSend e start ⌝ }
 {
