@@ -23,10 +23,10 @@ use Rattle.log.proofs.Read.{worker-within, checkpoint-initial, count-past}
 use Rattle.accept.specs.WellFormed.{WellFormed}
 use Rattle.lent.specs.Lent.{at}
 use Rattle.causality.specs.Cut.{IsCut}
-use Rattle.restore.specs.Choice.{mayChoose, IsChoice, startsOf, Startable, isStartable}
+use Rattle.choice.specs.Choice.{mayChoose, IsChoice, startsOf, Startable, isStartable}
 use Rattle.covering.specs.Covering.{isSet, Covers, cutOfAll, StartableSet, withoutSet, indexOf, setIndex, setStarts, coveringSet, CoversWhenStartable}
-use Rattle.restore.proofs.Choosable.{may-below, may-initial}
-use Rattle.restore.proofs.Startable.{starts-at, unlogged-receive, startable-iff}
+use Rattle.choice.proofs.Choosable.{may-below, may-initial}
+use Rattle.choice.proofs.Startable.{starts-at, unlogged-receive, startable-iff}
 
 module _ (log : Workers) (t : ℕ) where
   set-below : (w c : ℕ) → isSet log t w c ≡ true → c < checkpointCount log w + 1

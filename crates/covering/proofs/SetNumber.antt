@@ -15,10 +15,10 @@ use Rattle.ranges.proofs.Tabulate.{length-tabulate}
 use Rattle.log.specs.Model.{Workers, workerCount, checkpointCount, checkpointOf}
 use Rattle.log.proofs.Read.{checkpoint-past}
 use Rattle.accept.specs.WellFormed.{WellFormed}
-use Rattle.restore.specs.Choice.{isStartable}
+use Rattle.choice.specs.Choice.{isStartable}
 use Rattle.covering.specs.Covering.{isSet, cutOfAll, withoutSet, setIndex, setStarts}
 use Rattle.covering.specs.Inner.Looked.{firstSet}
-use Rattle.restore.proofs.Startable.{startable-same}
+use Rattle.choice.proofs.Startable.{startable-same}
 use Rattle.covering.proofs.CoveringSet.{set-index, set-none, cut-of-all}
 
 module _ (log : Workers) (t w : ℕ) where

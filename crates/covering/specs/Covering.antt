@@ -10,7 +10,7 @@ use lib.ListN.{getD}
 use Rattle.ranges.specs.Fold.{anyBelow, lastBelow, tabulate}
 use Rattle.log.specs.declared.Checkpoint.{Checkpoint}
 use Rattle.log.specs.Model.{Workers, workerCount, eventCount, eventOf, checkpointCount, checkpointOf, initial, isReceive, isLogged}
-use Rattle.restore.specs.Choice.{mayChoose, IsChoice, startsOf, Startable, isStartable}
+use Rattle.choice.specs.Choice.{mayChoose, IsChoice, startsOf, Startable, isStartable}
 
 -- checkpoint c of worker w has identifier t; "For t = 0 the initial states are meant": checkpoint 0 alone has identifier 0
 unfoldable pub isSet : Workers → ℕ → ℕ → ℕ → Bool

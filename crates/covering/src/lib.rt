@@ -1,8 +1,8 @@
 // The test whether the checkpoints with an identifier are a covering set.
 
 use causality::Test;
-use restore::choice::loses_send;
-use restore::choice::may_choose;
+use choice::loses_send;
+use choice::may_choose;
 ghost use mathlib.Core.Path.{_≡_};
 ghost use mathlib.Core.Bool.{false};
 ghost use mathlib.Core.List.{_++_};
@@ -14,7 +14,7 @@ ghost use Rattle.log.specs.Layout.{workersOf};
 ghost use Rattle.log.specs.Model.{workerCount, eventCount};
 ghost use Rattle.accept.specs.Refusal.{logRefusal};
 ghost use Rattle.causality.specs.Calls.{yesUnless};
-ghost use Rattle.restore.specs.Choice.{lostAt, workerLost, isStartable};
+ghost use Rattle.choice.specs.Choice.{lostAt, workerLost, isStartable};
 ghost use Rattle.covering.specs.Covering.{isSet, cutOfAll, withoutSet, setStarts, coveringSet};
 ghost use Rattle.covering.specs.Inner.Looked.{firstSet};
 

@@ -17,7 +17,7 @@ use Rattle.lower_cut.specs.Figure2.{turnIf, turn, visit, visitAt, beginning, fi
 use Rattle.causality.specs.Refusals.{workerRefusal, eventRefusal, breakpointRefusal}
 use Rattle.upper_line.specs.Upper.{happened, upperAt, upperLine}
 use Rattle.lower_cut.specs.Workers.{bitOf, workersWord}
-use Rattle.restore.specs.Choice.{mayChoose, losesSend}
+use Rattle.choice.specs.Choice.{mayChoose, losesSend}
 use Rattle.restore.specs.Plan.{loses, workerLoses, someLoses, usable, indexIf, rolledBackAt, rolledBack, planStarts, standsAt, identifierOf, identifierAt, planWord, planWords}
 use Rattle.cost.specs.Words.{cutIn, startIn}
 use Rattle.cost.specs.Cost.{replayed, eventsOf, eventUnits, workerUnits, unitsOf, builtIn}

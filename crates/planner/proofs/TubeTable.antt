@@ -12,7 +12,7 @@ use Rattle.accept.proofs.Tube.{tube-workers}
 use Rattle.causality.specs.Cut.{namedOf, component, vector, lacks, workerLacks, isConsistent}
 use Rattle.lower_cut.specs.Figure2.{turnIf, turn, visit, visitAt, beginning, figure2}
 use Rattle.upper_line.specs.Upper.{happened, upperAt, upperLine}
-use Rattle.restore.specs.Choice.{mayChoose, losesSend, lostAt, workerLost, isStartable}
+use Rattle.choice.specs.Choice.{mayChoose, losesSend, lostAt, workerLost, isStartable}
 use Rattle.restore.specs.Plan.{loses, workerLoses, someLoses, usable, indexIf, rolledBackAt, rolledBack, planStarts}
 use Rattle.cost.specs.Cost.{replayed, eventsOf, eventUnits, workerUnits, unitsOf, builtIn}
 use Rattle.covering.specs.Covering.{isSet, cutOfAll, withoutSet, indexOf, setIndex, setStarts, coveringSet}

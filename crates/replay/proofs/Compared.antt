@@ -9,7 +9,7 @@ use borrow.Author.Tests.{lt-ltb, le-ltb}
 use Rattle.log.specs.declared.Event.{Event}
 use Rattle.log.specs.Model.{isUnlogged, unloggedSend}
 use Rattle.lent.specs.Lent.{at}
-use Rattle.restore.specs.Choice.{losesSend}
+use Rattle.choice.specs.Choice.{losesSend}
 use Rattle.replay.specs.Machine.{receiveAnswer, eventAnswer}
 
 module _ (starts positions : List ℕ) (e : Event) where

@@ -16,7 +16,7 @@ use Rattle.lower_cut.specs.Calls.{foundCut}
 use Rattle.lower_cut.specs.Figure2.{lowerCut}
 use Rattle.lower_cut.proofs.LowerCut.{lower-is, lower-happened}
 use Rattle.lower_cut.proofs.VisitCount.{visits-few}
-use Rattle.restore.specs.Choice.{startsOf}
+use Rattle.choice.specs.Choice.{startsOf}
 use Rattle.restore.specs.Plan.{planChoice, planStarts, planAt, planWord, planWords}
 use Rattle.cost.specs.Words.{cutsIn, startsIn}
 use Rattle.restore.specs.Calls.{foundPlan, planTotals}

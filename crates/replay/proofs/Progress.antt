@@ -16,7 +16,7 @@ use Rattle.accept.specs.WellFormed.{WellFormed}
 use Rattle.accept.proofs.Stamps.{waits-earlier}
 use Rattle.lent.specs.Lent.{at}
 use Rattle.causality.specs.Cut.{Consistent, Within}
-use Rattle.restore.specs.Choice.{Startable}
+use Rattle.choice.specs.Choice.{Startable}
 use Rattle.replay.specs.Machine.{answerOf, AtCut}
 use Rattle.replay.proofs.Steps.{Between, Ready, done-ready}
 

@@ -16,7 +16,7 @@ use Rattle.log.proofs.Read.{worker-within}
 use Rattle.accept.specs.WellFormed.{WellFormed}
 use Rattle.lent.specs.Lent.{at}
 use Rattle.causality.specs.Cut.{Consistent, Within}
-use Rattle.restore.specs.Choice.{IsChoice, startsOf, Startable}
+use Rattle.choice.specs.Choice.{IsChoice, startsOf, Startable}
 use Rattle.replay.specs.Machine.{answerOf, moved, positionsAfter, AtCut, Works}
 use Rattle.replay.proofs.Steps.{Between, starts-between, done-ready, refused, done-raises, moved-long, moved-between}
 use Rattle.replay.proofs.Count.{done-counts, moved-sum, at-cut-sum}

@@ -11,7 +11,7 @@ use Rattle.log.specs.Model.{Workers, workerCount, initial}
 use Rattle.causality.specs.Happened.{IsEvent, HappenedBefore}
 use Rattle.causality.specs.Cut.{Within, receivesWithin}
 use Rattle.lower_cut.specs.Figure2.{lowerCut}
-use Rattle.restore.specs.Choice.{IsChoice, startsOf}
+use Rattle.choice.specs.Choice.{IsChoice, startsOf}
 use Rattle.restore.specs.Plan.{planChoice, planWords}
 use Rattle.cost.specs.Words.{cutIn, cutsIn, startsIn}
 use Rattle.cost.specs.Cost.{Table, eventsOf, unitsOf, builtIn}

@@ -2,8 +2,8 @@
 
 pub mod list;
 
+use choice::loses_send;
 use log::Event;
-use restore::choice::loses_send;
 ghost use mathlib.Core.Path.{_≡_};
 ghost use mathlib.Core.List.{List};
 ghost use Prim.Native.Nat.{ℕ, _+_, _*_, _<_, _≤_};

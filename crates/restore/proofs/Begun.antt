@@ -14,8 +14,8 @@ use Rattle.lent.specs.Lent.{at}
 use Rattle.causality.specs.Cut.{IsCut}
 use Rattle.cost.specs.Words.{cutIn, startIn, cutsIn}
 use Rattle.restore.specs.Inner.Rollback.{numberIn, numberBelow, placed, RollingBack}
-use Rattle.restore.proofs.Choosable.{may-recorded}
-use Rattle.restore.proofs.Startable.{starts-at}
+use Rattle.choice.proofs.Choosable.{may-recorded}
+use Rattle.choice.proofs.Startable.{starts-at}
 use Rattle.cost.proofs.Held.{cuts-at}
 use Rattle.restore.proofs.Placed.{IsBelow, number-below, placed-length, placed-cut, placed-start, placed-start-other, placed-number, placed-number-other}
 use Rattle.restore.proofs.Settling.{below-most}

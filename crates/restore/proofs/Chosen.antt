@@ -18,10 +18,10 @@ use Rattle.log.specs.declared.Checkpoint.{Checkpoint}
 use Rattle.log.specs.Model.{Workers, workerCount, checkpointCount, checkpointOf, initial}
 use Rattle.lent.specs.Lent.{at}
 use Rattle.causality.specs.Cut.{Within}
-use Rattle.restore.specs.Choice.{mayChoose, IsChoice, startsOf, Startable}
+use Rattle.choice.specs.Choice.{mayChoose, IsChoice, startsOf, Startable}
 use Rattle.restore.specs.Plan.{standsAt, identifierOf, identifierAt, planAt}
-use Rattle.restore.proofs.Choosable.{may-below}
-use Rattle.restore.proofs.Startable.{starts-at, same-starts}
+use Rattle.choice.proofs.Choosable.{may-below}
+use Rattle.choice.proofs.Startable.{starts-at, same-starts}
 
 -- x is the index of a checkpoint of worker w that may be chosen
 abbrev pub IndexOffered : Workers → ℕ → ℕ → Type 0

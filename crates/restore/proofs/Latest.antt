@@ -16,9 +16,9 @@ use Rattle.log.specs.Model.{Workers, workerCount, initial}
 use Rattle.accept.specs.WellFormed.{WellFormed}
 use Rattle.lent.specs.Lent.{at}
 use Rattle.causality.specs.Cut.{Within, IsCut}
-use Rattle.restore.specs.Choice.{IsChoice, startsOf, Startable, IsLatest}
+use Rattle.choice.specs.Choice.{IsChoice, startsOf, Startable, IsLatest}
 use Rattle.restore.specs.Plan.{rolledBack, planStarts, planChoice}
-use Rattle.restore.proofs.Startable.{same-starts}
+use Rattle.choice.proofs.Startable.{same-starts}
 use Rattle.restore.proofs.Chosen.{AreStarts, IsLastAt, choice-starts, plan-last, chosen, chosen-at, chosen-starts, chosen-choice, chosen-startable}
 use Rattle.restore.proofs.RolledBack.{length-rolled-back, rolled-back-within, rolled-back-above, rolled-back-fixed}
 

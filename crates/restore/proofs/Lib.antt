@@ -1,5 +1,3 @@
-pub mod Choosable
-pub mod Startable
 pub mod Chosen
 pub mod RolledBack
 pub mod Latest

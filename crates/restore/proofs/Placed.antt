@@ -15,9 +15,9 @@ use Rattle.ranges.proofs.Order.{lt-or-le}
 use Rattle.ranges.proofs.Bools.{and-true-left, and-true-right}
 use Rattle.log.specs.Model.{Workers, checkpointOf}
 use Rattle.log.proofs.Read.{checkpoint-initial}
-use Rattle.restore.specs.Choice.{mayChoose}
+use Rattle.choice.specs.Choice.{mayChoose}
 use Rattle.cost.specs.Words.{cutIn, startIn}
-use Rattle.restore.proofs.Choosable.{may-initial}
+use Rattle.choice.proofs.Choosable.{may-initial}
 use Rattle.restore.specs.Inner.Rollback.{numberIn, mayStartBelow, numberBelow, placed}
 
 -- r is the last checkpoint of worker w, up to number c, that may be chosen and has an index below bound

@@ -20,10 +20,10 @@ use Rattle.log.proofs.Read.{worker-within, checkpoint-initial}
 use Rattle.accept.specs.WellFormed.{WellFormed}
 use Rattle.lent.specs.Lent.{at}
 use Rattle.causality.specs.Cut.{Within, IsCut}
-use Rattle.restore.specs.Choice.{mayChoose, losesSend}
+use Rattle.choice.specs.Choice.{mayChoose, losesSend}
 use Rattle.restore.specs.Plan.{loses, workerLoses, someLoses, usable, indexIf, rolledBackAt, rolledBack}
-use Rattle.restore.proofs.Choosable.{may-below, may-initial}
-use Rattle.restore.proofs.Startable.{unlogged-receive, lost-send, keeps-send}
+use Rattle.choice.proofs.Choosable.{may-below, may-initial}
+use Rattle.choice.proofs.Startable.{unlogged-receive, lost-send, keeps-send}
 use Rattle.restore.proofs.Chosen.{AreStarts}
 
 -- worker v, started at index x, can send again what every worker needs

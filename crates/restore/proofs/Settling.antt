@@ -26,12 +26,12 @@ use Rattle.accept.proofs.Accepted.{well-formed}
 use Rattle.lent.specs.Lent.{at}
 use Rattle.causality.specs.Happened.{IsEvent}
 use Rattle.causality.specs.Cut.{IsCut}
-use Rattle.restore.specs.Choice.{mayChoose, IsChoice, startsOf, Startable, losesSend}
+use Rattle.choice.specs.Choice.{mayChoose, IsChoice, startsOf, Startable, losesSend}
 use Rattle.restore.specs.Plan.{identifierOf, identifierAt}
 use Rattle.cost.specs.Words.{startIn, cutsIn, startsIn}
 use Rattle.restore.specs.Inner.Rollback.{numberIn, numberBelow, placed, resent, pending, RollingBack, Looked, Settled}
-use Rattle.restore.proofs.Choosable.{may-recorded}
-use Rattle.restore.proofs.Startable.{starts-at, unlogged-receive, lost-send, keeps-send}
+use Rattle.choice.proofs.Choosable.{may-recorded}
+use Rattle.choice.proofs.Startable.{starts-at, unlogged-receive, lost-send, keeps-send}
 use Rattle.restore.proofs.Chosen.{IndexOffered, choice-starts, identifier-last}
 use Rattle.restore.proofs.Latest.{AreLatest, latest-is-plan}
 use Rattle.cost.proofs.Held.{starts-in-at, cuts-are}

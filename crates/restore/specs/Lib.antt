@@ -1,4 +1,3 @@
-pub mod Choice
 pub mod Plan
 pub mod Calls
 pub mod Inner

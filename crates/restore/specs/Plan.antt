@@ -8,7 +8,7 @@ use Rattle.ranges.specs.Fold.{anyBelow, maxBelow, sumBelow, lastBelow, tabulate
 use Rattle.log.specs.declared.Checkpoint.{Checkpoint}
 use Rattle.log.specs.Model.{Workers, workerCount, eventOf, checkpointCount, checkpointOf}
 use Rattle.lent.specs.Lent.{at}
-use Rattle.restore.specs.Choice.{mayChoose, losesSend}
+use Rattle.choice.specs.Choice.{mayChoose, losesSend}
 
 -- event k + 1 of w is after its worker's start and loses its send where v, the sender, starts at index x
 unfoldable pub loses : Workers → List ℕ → ℕ → ℕ → ℕ → ℕ → Bool

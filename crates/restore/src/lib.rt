@@ -1,6 +1,5 @@
 // The restore plan of a breakpoint event.
 
-pub mod choice;
 mod starts;
 
 use lower_cut::Cut;

@@ -1,7 +1,7 @@
 // The starts of a plan: each worker is rolled back from its latest checkpoint within the cut, until no send is lost.
 
-use crate::choice::loses_send;
-use crate::choice::may_choose;
+use choice::loses_send;
+use choice::may_choose;
 use cost::cut_in;
 use cost::start_in;
 ghost use mathlib.Core.Path.{_≡_};

@@ -8,7 +8,7 @@ use Rattle.log.specs.Model.{workerCount}
 use Rattle.accept.proofs.Accepted.{accepted-layout, well-formed}
 use Rattle.causality.proofs.Peers.{peer-within}
 use Rattle.lent.specs.Lent.{at}
-use Rattle.restore.specs.Choice.{lostAt}
+use Rattle.choice.specs.Choice.{lostAt}
 use borrow.Author.Needs.{needs}
 use Rattle.covering.proofs.is_lost.Statement.{statement}
 use Rattle.covering.proofs.is_lost.Tie as tie

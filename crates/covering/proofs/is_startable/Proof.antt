@@ -6,7 +6,7 @@ use native.Mathlib.Omega.{arith}
 use Rattle.ranges.proofs.Any.{Sought, sought-none, sought-more, sought-found, sought-end}
 use Rattle.log.specs.Layout.{workersOf}
 use Rattle.accept.proofs.Accepted.{accepted-layout}
-use Rattle.restore.specs.Choice.{workerLost, isStartable}
+use Rattle.choice.specs.Choice.{workerLost, isStartable}
 use Rattle.covering.specs.Covering.{cutOfAll}
 use Rattle.covering.proofs.is_startable.Statement.{statement}
 use Rattle.covering.proofs.is_startable.Tie as tie

@@ -5,7 +5,7 @@ use native.Mathlib.Omega.{arith}
 use Rattle.ranges.proofs.Any.{Sought, sought-none, sought-more, sought-found, sought-end}
 use Rattle.log.specs.Layout.{workersOf}
 use Rattle.accept.proofs.Accepted.{accepted-layout}
-use Rattle.restore.specs.Choice.{lostAt, workerLost}
+use Rattle.choice.specs.Choice.{lostAt, workerLost}
 use Rattle.covering.proofs.CoveringSet.{all-at}
 use Rattle.covering.proofs.worker_lost.Statement.{statement}
 use Rattle.covering.proofs.worker_lost.Tie as tie

@@ -12,13 +12,9 @@ use Rattle.log.specs.declared.Event.{Event}
 use Rattle.log.specs.declared.Checkpoint.{Checkpoint}
 use Rattle.log.specs.Model.{Workers, workerCount, eventOf, checkpointOf, isUnlogged}
 use Rattle.lent.specs.Lent.{at}
-use Rattle.restore.specs.Choice.{mayChoose, IsChoice, startsOf, Startable, losesSend}
+use Rattle.choice.specs.Choice.{mayChoose, IsChoice, startsOf, Startable, losesSend}
 use Rattle.restore.specs.Plan.{identifierOf, identifierAt, planStarts}
 use Rattle.cost.specs.Words.{cutIn, startIn, startsIn}
-
--- what the code adds to an event's send, so that one comparison with a start serves every kind
-unfoldable pub aboveStarts : Event → ℕ
-aboveStarts e = cond (isUnlogged e) 0 4294967296
 
 -- the third word of worker w
 unfoldable pub numberIn : List ℕ → ℕ → ℕ

@@ -1,9 +1,9 @@
--- `restore::choice::above_starts` meets its contract. Assumes nothing.
+-- `choice::above_starts` meets its contract. Assumes nothing.
 use native.Mathlib.Omega.{arith}
-use Rattle.restore.specs.Inner.Rollback.{aboveStarts}
+use Rattle.choice.specs.Inner.Compared.{aboveStarts}
 use borrow.Author.Needs.{needs}
-use Rattle.restore.proofs.choice.above_starts.Statement.{statement}
-use Rattle.restore.proofs.choice.above_starts.Tie as tie
+use Rattle.choice.proofs.above_starts.Statement.{statement}
+use Rattle.choice.proofs.above_starts.Tie as tie
 
 returns : tie.Need-returns
 unfolding aboveStarts

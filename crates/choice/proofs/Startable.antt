@@ -22,9 +22,9 @@ use Rattle.log.proofs.Read.{checkpoint-initial, worker-within}
 use Rattle.accept.specs.WellFormed.{WellFormed}
 use Rattle.lent.specs.Lent.{at}
 use Rattle.causality.specs.Cut.{Within, IsCut}
-use Rattle.restore.proofs.Choosable.{may-initial}
-use Rattle.restore.specs.Choice.{Offered, IsChoice, startsOf, Startable, losesSend, lostAt, workerLost, isStartable}
-use Rattle.restore.specs.Inner.Rollback.{aboveStarts}
+use Rattle.choice.proofs.Choosable.{may-initial}
+use Rattle.choice.specs.Choice.{Offered, IsChoice, startsOf, Startable, losesSend, lostAt, workerLost, isStartable}
+use Rattle.choice.specs.Inner.Compared.{aboveStarts}
 
 -- a choice starts each worker at the index of its checkpoint
 pub starts-at : (choice : List Checkpoint) (w : ℕ) → at (startsOf choice) w ≡ getD choice w initial .index

@@ -1,9 +1,9 @@
--- `restore::choice::loses_send` meets its contract. Assumes nothing.
+-- `choice::loses_send` meets its contract. Assumes nothing.
 use native.Mathlib.Omega.{arith}
-use Rattle.restore.proofs.Startable.{compared-send}
+use Rattle.choice.proofs.Startable.{compared-send}
 use borrow.Author.Needs.{needs}
-use Rattle.restore.proofs.choice.loses_send.Statement.{statement}
-use Rattle.restore.proofs.choice.loses_send.Tie as tie
+use Rattle.choice.proofs.loses_send.Statement.{statement}
+use Rattle.choice.proofs.loses_send.Tie as tie
 
 add-result : tie.Need-add-result
 add-result c = omega (arith, c .before .above-starts .ensures .1, c .struct-known .given)

@@ -5,7 +5,7 @@ use Prim.Native.Nat.{ℕ, _+_, _<_, _≤_}
 use native.Mathlib.Omega.{arith}
 use borrow.Author.Tests.{le-leb, leb-true}
 use Rattle.log.specs.Model.{Workers, checkpointCount}
-use Rattle.restore.specs.Choice.{mayChoose}
+use Rattle.choice.specs.Choice.{mayChoose}
 
 module _ (log : Workers) (w : ℕ) where
   -- a checkpoint that may be chosen is a recorded one or the initial state

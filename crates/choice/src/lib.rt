@@ -5,8 +5,8 @@ ghost use mathlib.Core.Path.{_≡_};
 ghost use Prim.Native.Nat.{_≤_};
 ghost use Rattle.log.specs.Layout.{workersOf};
 ghost use Rattle.accept.specs.Refusal.{logRefusal};
-ghost use Rattle.restore.specs.Choice.{mayChoose, losesSend};
-ghost use Rattle.restore.specs.Inner.Rollback.{aboveStarts};
+ghost use Rattle.choice.specs.Choice.{mayChoose, losesSend};
+ghost use Rattle.choice.specs.Inner.Compared.{aboveStarts};
 
 // Whether checkpoint c of worker w may be chosen.
 pub fn may_choose(log: &[u8], w: usize, c: u32) -> bool

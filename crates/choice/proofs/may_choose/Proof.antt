@@ -1,8 +1,8 @@
--- `restore::choice::may_choose` meets its contract. Assumes nothing.
+-- `choice::may_choose` meets its contract. Assumes nothing.
 use Rattle.accept.proofs.Accepted.{accepted-layout}
-use Rattle.restore.specs.Choice.{mayChoose}
-use Rattle.restore.proofs.choice.may_choose.Statement.{statement}
-use Rattle.restore.proofs.choice.may_choose.Tie as tie
+use Rattle.choice.specs.Choice.{mayChoose}
+use Rattle.choice.proofs.may_choose.Statement.{statement}
+use Rattle.choice.proofs.may_choose.Tie as tie
 
 checkpoint-count-requires : tie.Need-checkpoint-count-requires
 checkpoint-count-requires c κs = accepted-layout _ (c .before .pre)

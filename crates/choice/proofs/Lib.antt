@@ -1,0 +1,2 @@
+pub mod Choosable
+pub mod Startable
