@@ -1,4 +1,5 @@
--- Startable choices: the test for one, that the initial states are one, and so is the larger of two.
+-- Startable choices: the test for one; one for a cut is one for a smaller cut that none of its checkpoints is beyond; the initial states
+-- are one, and so is the larger of two.
 -- Assumes nothing.
 use mathlib.Core.Path.{_≡_, refl, sym, _∙_, ap}
 use mathlib.Core.Bool.{Bool, true, false, not, cond, _&&_}
@@ -97,6 +98,24 @@ startable-same log ok cut isCut a b same =
     ap not (any-same (workerLost log cut a) (workerLost log cut b) (workerCount log)
     (λ w h. any-same (lostAt log a w) (lostAt log b w) (at cut w)
     (λ k l. rw (same w h, same (eventOf log w (k + 1) .peer) (ok .peers w (k + 1) (omega arith) (omega (arith, isCut .within w)))))))
+
+-- what is startable for a cut is startable for one within it
+pub startable-within : (log : Workers) (cut all starts : List ℕ) → Within cut all → Startable log all starts → Startable log cut starts
+startable-within log cut all starts inside startable w k after here = startable w k after (omega (arith, inside w))
+
+-- a choice for a cut is one for every other cut that none of its checkpoints is beyond
+pub choice-within : (log : Workers) (cut all : List ℕ) (choice : List Checkpoint) → IsChoice log all choice
+    → ((w : ℕ) → w < workerCount log → getD choice w initial .index ≤ at cut w) → IsChoice log cut choice
+choice-within log cut all choice is below =
+    record {
+      long = is .long;
+      offered = is .offered;
+      within = λ w.
+          ⊎-elim
+          (λ l. below w l)
+          (λ l. let past : length choice ≤ w = omega (arith, is .long) in rw (List·getD-eq-default choice initial past) (omega arith))
+          (lt-or-le w (workerCount log));
+    }
 
 -- starts that give every worker the same are the same
 pub same-starts : (a b : List ℕ) → length a ≡ length b → Within a b → Within b a → a ≡ b

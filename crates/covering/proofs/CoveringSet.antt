@@ -9,13 +9,13 @@ use Prim.Native.Nat.{ℕ, _+_, _<_}
 use native.Mathlib.Omega.{arith}
 use borrow.Author.Tests.{eqb-true, eq-eqb, not-true, not-false}
 use lib.Dec.{eqb}
-use lib.ListN.{getD, length-map}
+use lib.ListN.{getD, length-map, replicate}
 use Rattle.ranges.specs.Fold.{anyBelow, lastBelow, tabulate}
 use Rattle.ranges.proofs.Order.{lt-or-le, rising}
 use Rattle.ranges.proofs.Any.{any-each, any-every, any-found, any-some}
 use Rattle.ranges.proofs.Bools.{and-true-left, and-true-right, or-true-cases}
 use Rattle.ranges.proofs.First.{last, last-zero}
-use Rattle.ranges.proofs.Tabulate.{length-tabulate, getD-tabulate, getD-tabulate-past, tabulate-list}
+use Rattle.ranges.proofs.Tabulate.{length-tabulate, getD-tabulate, getD-tabulate-past, getD-replicate-all, tabulate-list}
 use Rattle.log.specs.declared.Event.{Event}
 use Rattle.log.specs.declared.Checkpoint.{Checkpoint}
 use Rattle.log.specs.Model.{Workers, workerCount, eventCount, eventOf, checkpointCount, checkpointOf, initial, isReceive, isLogged, isUnlogged}
@@ -26,7 +26,7 @@ use Rattle.causality.specs.Cut.{IsCut}
 use Rattle.choice.specs.Choice.{mayChoose, IsChoice, startsOf, Startable, isStartable}
 use Rattle.covering.specs.Covering.{isSet, Covers, cutOfAll, StartableSet, withoutSet, indexOf, setIndex, setStarts, coveringSet, CoversWhenStartable}
 use Rattle.choice.proofs.Choosable.{may-below, may-initial}
-use Rattle.choice.proofs.Startable.{starts-at, unlogged-receive, startable-iff}
+use Rattle.choice.proofs.Startable.{starts-at, unlogged-receive, startable-iff, initial-choice, initial-startable}
 
 module _ (log : Workers) (t : ℕ) where
   set-below : (w c : ℕ) → isSet log t w c ≡ true → c < checkpointCount log w + 1
@@ -174,11 +174,19 @@ module _ (log : Workers) (t : ℕ) (ok : WellFormed log) where
   )
 
   -- ---- the choice
-  choice-set : (choice : List Checkpoint) (s : StartableSet log t choice) (w : ℕ) → (h : w < workerCount log) → isSet log t w (s .isChoice .offered w h .0) ≡ true
+  -- each of its checkpoints is one with identifier t ..
+  pub choice-set : (choice : List Checkpoint) (s : StartableSet log t choice) (w : ℕ) → (h : w < workerCount log) → isSet log t w (s .isChoice .offered w h .0) ≡ true
   unfolding isSet
   choice-set choice s w h =
       let o = s .isChoice .offered w h in
       rw (o .1, eq-eqb (checkpointOf log w (o .0) .identifier) t (ap (λ (p : Checkpoint). p .identifier) (o .2) ∙ s .has w h))
+
+  -- .. and a worker's checkpoint with identifier t is the one that the choice gives it
+  pub set-point : (choice : List Checkpoint) → StartableSet log t choice → (w c : ℕ) → w < workerCount log → isSet log t w c ≡ true
+      → checkpointOf log w c ≡ getD choice w initial
+  set-point choice s w c h e =
+      let o = s .isChoice .offered w h in
+      ap (checkpointOf log w) (set-unique log t ok w c (o .0) e (choice-set choice s w h)) ∙ o .2
 
   abbrev setPoint : ℕ → Checkpoint
   setPoint w = checkpointOf log w (setNumber log t w)
@@ -239,3 +247,20 @@ module _ (log : Workers) (t : ℕ) (ok : WellFormed log) where
         covers = (λ e. covering-iff .0 (said .0 e), λ c. said .1 (covering-iff .1 c));
         startable = (λ e. startable-set-iff .0 (said .0 e), λ c. said .1 (startable-set-iff .1 c));
       }
+
+module _ (log : Workers) (ok : WellFormed log) where
+  -- the initial states cover ..
+  pub initial-covers : coveringSet log 0 ≡ true
+  initial-covers =
+      startable-set-iff log 0 ok .1 (
+        replicate (workerCount log) initial,
+        record {
+          isChoice = initial-choice log (cutOfAll log);
+          has = λ w h. ap (λ (p : Checkpoint). p .identifier) (getD-replicate-all (workerCount log) w initial);
+          startable = initial-startable log (cutOfAll log) ok;
+        },
+      )
+
+  -- .. and have index 0
+  pub initial-index : (w c : ℕ) → isSet log 0 w c ≡ true → checkpointOf log w c .index ≡ 0
+  initial-index w c e = rw (set-initial log ok w c e, checkpoint-initial log w)

@@ -23,6 +23,7 @@ ghost use Rattle.causality.specs.Refusals.{lineRefusal, searchRefusal, testRefu
 ghost use Rattle.lower_cut.specs.Calls.{foundCut, cutTotals};
 ghost use Rattle.covering.specs.Covering.{coveringSet, CoversWhenStartable};
 ghost use Rattle.restore.specs.Calls.{foundPlan, planTotals};
+ghost use Rattle.restore.specs.Floor.{Floor};
 ghost use Rattle.replay.specs.Machine.{listed, answerWord, stepWords};
 ghost use Rattle.replay.specs.Calls.{stepAnswer, stepAfter, stepsRefusal, restoreRefusal, machineRun, machineAfter};
 ghost use Rattle.replay.specs.Demand3.{Demand3};
@@ -117,6 +118,7 @@ pub extern "C" fn plan(
     ensures words { λ r. ⌜ now (words .exit) ≡ unlessRefused r (plannedWords (workersOf (now (log .entry))) worker event) (now (words .entry)) ⌝ }
     ensures totals { λ r. ⌜ now (totals .exit) ≡ unlessRefused r (planTotals (foundPlan (workersOf (now (log .entry))) worker event)) (now (totals .entry)) ⌝ }
     ensures kept { λ r. ⌜ KeptIfRefused r (now (scratch .entry)) (now (scratch .exit)) ⌝ }
+    ensures floor { λ r. ⌜ (r ≡ 0 → Floor (workersOf (now (log .entry))) worker event (take (3 * workerCount (workersOf (now (log .entry)))) (now (words .exit)))) ⌝ }
 {
     let others = lent::words_refusal(totals.len(), 4);
     let found = restore::plan(log, worker, event, others, words, scratch);
@@ -225,6 +227,8 @@ pub extern "C" fn restore_and_replay(
     ensures demand3 { λ r. ⌜ (r ≡ 0 → Demand3 (workersOf (now (log .entry))) worker event (now (workers .entry)) (take 4 (now (totals .exit)))
         (take (3 * workerCount (workersOf (now (log .entry)))) (now (words .exit))) (take (workerCount (workersOf (now (log .entry)))) (now (positions .exit)))
         (take (length (now (workers .entry)) * (workerCount (workersOf (now (log .entry))) + 1)) (now (steps .exit)))) ⌝ }
+    ensures floor { λ r. ⌜ (r ≡ 0 → Floor (workersOf (now (log .entry))) worker event
+        (take (3 * workerCount (workersOf (now (log .entry)))) (now (words .exit)))) ⌝ }
 {
     let refusal = replay::list::restore_refusal(
         log,

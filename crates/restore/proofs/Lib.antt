@@ -6,3 +6,4 @@ pub mod Settling
 pub mod Begun
 pub mod Finished
 pub mod Written
+pub mod Floor

@@ -1,3 +1,4 @@
 pub mod Plan
 pub mod Calls
+pub mod Floor
 pub mod Inner

@@ -5,7 +5,7 @@ mod starts;
 use lower_cut::Cut;
 ghost use mathlib.Core.Path.{_≡_};
 ghost use Prim.Native.Nat.{_*_, _<_, _≤_};
-ghost use lib.ListN.{length};
+ghost use lib.ListN.{length, take};
 ghost use Rattle.ranges.specs.Fold.{tabulate};
 ghost use Rattle.lent.specs.Lent.{onto, unlessRefused, KeptIfRefused};
 ghost use Rattle.log.specs.Layout.{workersOf};
@@ -18,6 +18,7 @@ ghost use Rattle.lower_cut.specs.Calls.{foundCut};
 ghost use Rattle.restore.specs.Plan.{planWords};
 ghost use Rattle.cost.specs.Words.{cutIn, cutsIn};
 ghost use Rattle.restore.specs.Calls.{foundPlan, planAnswer, planTotals};
+ghost use Rattle.restore.specs.Floor.{Floor};
 
 // What the plan returns beside its words.
 pub struct Totals {
@@ -86,6 +87,8 @@ pub fn plan(
     ensures words { λ r. ⌜ now (words .exit) ≡ unlessRefused (r .refusal)
         (planWords (workersOf (now (log .entry))) (lowerCut (workersOf (now (log .entry))) worker event)) (now (words .entry)) ⌝ }
     ensures kept { λ r. ⌜ KeptIfRefused (r .refusal) (now (scratch .entry)) (now (scratch .exit)) ⌝ }
+    ensures floor { λ r. ⌜ (r .refusal ≡ 0 → Floor (workersOf (now (log .entry))) worker event
+        (take (3 * workerCount (workersOf (now (log .entry)))) (now (words .exit)))) ⌝ }
 {
     let refusal = causality::refusals::search_refusal(
         log,

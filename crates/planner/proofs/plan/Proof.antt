@@ -14,7 +14,7 @@ returns : tie.Need-returns
 returns c =
     let called = c .before .before .before .before .before .plan .ensures in (
       rw (← c .before .before .before .before .before .before .before .before .words-refusal .ensures) (called .0),
-      (called .1 .1 .0, (untouched _ _ _ (c .if1 .taken), called .1 .1 .1)),
+      (called .1 .1 .0, (untouched _ _ _ (c .if1 .taken), (called .1 .1 .1 .0, λ none. absurd (c .if1 .taken none)))),
     )
 
 write-plan-requires : tie.Need-write-plan-requires
@@ -32,7 +32,7 @@ returns-2 c =
     let none = c .before .before .before .before .if1 .left in
     let found = rw (none) at (called .1 .0) in (
       sym none ∙ rw (← c .before .before .before .before .before .before .before .before .before .before .before .before .words-refusal .ensures) (called .0),
-      (rw (none) at (called .1 .1 .0), (put-found planTotals _ _ _ _ found (c .before .before .write-plan .ensures), λ no. absurd (no refl))),
+      (rw (none) at (called .1 .1 .0), (put-found planTotals _ _ _ _ found (c .before .before .write-plan .ensures), ((λ no. absurd (no refl)), λ _. called .1 .1 .1 .1 none))),
     )
 
 pub plan-spec : {M : Type 1} → statement M

@@ -1,21 +1,23 @@
 -- `restore::plan` meets its contract. Assumes nothing.
 use mathlib.Core.Path.{refl, sym, _∙_}
+use Prim.Native.Nat.{_*_}
 use native.Mathlib.Omega.{arith}
 use borrow.Author.Tests.{ne-eqb}
 use lib.ListN.{length-take}
 use lib.Seq.{length-take-le}
-use Rattle.accept.proofs.Accepted.{accepted-layout}
+use Rattle.accept.proofs.Accepted.{accepted-layout, well-formed}
 use Rattle.lent.proofs.Lent.{written, untouched}
 use Rattle.causality.proofs.Allowed.{search-ok}
 use Rattle.restore.specs.Calls.{foundPlan, planAnswer}
 use Rattle.restore.proofs.Written.{plan-long}
+use Rattle.restore.proofs.Floor.{floor-left}
 use borrow.Author.Needs.{needs}
 use Rattle.restore.proofs.plan.Statement.{statement}
 use Rattle.restore.proofs.plan.Tie as tie
 
 returns : tie.Need-returns
 unfolding planAnswer
-returns c = (c .before .search-refusal .ensures, (rw (ne-eqb _ _ (c .if1 .taken)), (untouched _ _ _ (c .if1 .taken), λ no. refl)))
+returns c = (c .before .search-refusal .ensures, (rw (ne-eqb _ _ (c .if1 .taken)), (untouched _ _ _ (c .if1 .taken), ((λ no. refl), λ none. absurd (c .if1 .taken none)))))
 
 worker-count-requires : tie.Need-worker-count-requires
 worker-count-requires c κs = accepted-layout _ (search-ok (c .before .search-refusal .ensures) (c .if1 .left) .line .breakpoint .accepted)
@@ -57,10 +59,13 @@ unfolding planAnswer foundPlan
 returns-2 c =
     let found = c .before .before .before .before .before .before .before .before .before .search-refusal .ensures in
     let none = c .before .before .before .before .before .before .before .before .if1 .left in
-    let count = c .before .before .before .before .before .before .before .worker-count .ensures .0 in
+    let size = c .before .before .before .before .before .before .before .worker-count in
     let answer = c .before .before .before .before .plan-found .ensures in
+    let point = search-ok found none .line .breakpoint in
+    let given = c .before .before .before .before .before .before .before .before .before .before .before .before .before .args in
+    let floor = floor-left _ (well-formed _ (point .accepted)) _ _ (point .event) (3 * size .result) _ (given .words .now) (answer .1) in
     rw (answer .0)
-    (sym none ∙ found, (refl, (rw (answer .1, count) (written _ _ _ _ refl (plan-long _ _)), λ no. absurd (no refl))))
+    (sym none ∙ found, (refl, (rw (answer .1, size .ensures .0) (written _ _ _ _ refl (plan-long _ _)), ((λ no. absurd (no refl)), λ _. floor))))
 
 pub plan-spec : {M : Type 1} → statement M
 plan-spec =
