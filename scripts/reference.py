@@ -2,7 +2,8 @@
 """Document 01, and form 2, the packed logs and the covering test of document 02, written in Python from the definitions. The
 expected output of the stored cases comes from here.
 
-    scripts/reference.py --check    the values T1 to T10, and the definitions against brute force on random small logs
+    scripts/reference.py --check    the values T1 to T10, and on random small logs the definitions against brute force and the
+                                    floor that covering sets give the starts (document 02, note 4)
 
 An event is named by its worker and its index, (w, x). A cut, a choice's starts and positions are lists of one number for
 each worker.
@@ -13,7 +14,7 @@ import itertools
 import random
 import struct
 import sys
-from collections import namedtuple
+from collections import Counter, namedtuple
 
 import logs
 
@@ -296,6 +297,11 @@ def latest_index(log, w, limit):
     return max(c.index for c in offered(log, w) if c.index <= limit)
 
 
+def latest_starts(log, cut):
+    """The latest checkpoint of each worker within the cut."""
+    return [latest_index(log, w, cut[w]) for w in range(log.n)]
+
+
 def lost(log, cut, starts):
     """The kind 2 receives after their worker's start and within the cut whose send is not above the sender's start."""
     return [
@@ -311,7 +317,7 @@ def is_startable(log, cut, starts):
 
 def plan_starts(log, cut):
     """The startable choice with every start index the largest: the latest starts, lowered until they are startable."""
-    starts = [latest_index(log, w, cut[w]) for w in range(log.n)]
+    starts = latest_starts(log, cut)
     while lost(log, cut, starts):
         for event in lost(log, cut, starts):
             if event.send <= starts[event.peer]:
@@ -343,15 +349,16 @@ def units_of(log, cut, starts):
     )
 
 
+def set_indices(log, identifier):
+    """The index of each worker's checkpoint with the identifier; fewer than n numbers where a worker lacks it."""
+    return [c.index for w in range(log.n) for c in offered(log, w) if c.identifier == identifier]
+
+
 def covers(log, identifier):
     """Whether the identifier covers: every worker has a checkpoint with it, and every receive after its worker's checkpoint, of a
     send with index smaller than or equal to the sender's checkpoint index, is kind 3. For 0 the initial states are meant.
     In the paper, section 5.2, a send at the sender's checkpoint itself is not counted; here it is (document 02, note 3)."""
-    index = {}
-    for w in range(log.n):
-        for c in offered(log, w):
-            if c.identifier == identifier:
-                index[w] = c.index
+    index = set_indices(log, identifier)
     if len(index) < log.n:
         return False
     return all(
@@ -601,6 +608,24 @@ def check_tube():
     expect("latest starts", step_call(data, latest, [1, 1, 2], 1), (23, [1, 1, 2]))
 
 
+def at_checkpoint_alone(log, starts):
+    """Whether these checkpoints are no covering set, but would be one by the paper's "smaller": the receives at fault are of sends
+    at the sender's checkpoint alone."""
+    missed = lost(log, all_events(log), starts)
+    return missed != [] and all(event.send == starts[event.peer] for event in missed)
+
+
+def check_smaller():
+    """With the paper's "smaller" the floor of check_floor would be false: set 1 of the tube log would cover, it is within the lower
+    cut, and the plan starts worker 2 before it."""
+    log = read(logs.tube())
+    cut, _ = figure2(log, 0, 2)
+    checkpoints = set_indices(log, 1)
+    expect("set 1", (checkpoints, covers(log, 1), at_checkpoint_alone(log, checkpoints)), ([1, 1, 2], False, True))
+    expect("set 1 within the cut", at_most(checkpoints, cut), True)
+    expect("workers that start before it", [w for w, start in enumerate(plan_starts(log, cut)) if start < checkpoints[w]], [2])
+
+
 def check_checkpoints():
     """Identifiers of a log with the answer worked out by hand."""
     first = logs.Worker(0, [("send", 1, 1), ("send", 1, 3)], [(0, 2), (0, 5), (1, 6), (2, 7), (2, 9)])
@@ -763,6 +788,38 @@ def check_plan(log, data, i, e):
     expect("steps", steps_call(data, words, starts, turns, [7] * len(turns)), (0, cut, answers))
 
 
+def every_identifier(log):
+    """0 and the identifiers that are recorded."""
+    return sorted({c.identifier for w in range(log.n) for c in offered(log, w)})
+
+
+# What check_floor counts of the recorded sets that cover. Those at or below the lower cut in every worker: "at", each start is at
+# the set; "lowered", besides, some worker has a later checkpoint within the cut; "later", some start is later. Those past the cut
+# in some worker: "past", some start is before the set; "within", besides, one is before a checkpoint that is within the cut.
+FLOOR = ("at", "lowered", "later", "past", "within")
+
+
+def check_floor(log, i, e, name="random log"):
+    """For every identifier that covers, 0 too, and whose checkpoints are all at or below the lower cut, the plan starts no worker
+    before that set's checkpoint. The value has the counts of FLOOR."""
+    cut, _ = figure2(log, i, e)
+    starts = plan_starts(log, cut)
+    found = Counter()
+    for identifier in every_identifier(log):
+        if not covers(log, identifier):
+            continue
+        checkpoints = set_indices(log, identifier)
+        below, floor = at_most(checkpoints, cut), at_most(checkpoints, starts)
+        assert floor or not below, "%s: set %d at %r, cut %r, starts %r" % (name, identifier, checkpoints, cut, starts)
+        if identifier != 0:
+            found["at"] += below and starts == checkpoints
+            found["lowered"] += below and starts == checkpoints != latest_starts(log, cut)
+            found["later"] += below and starts != checkpoints
+            found["past"] += not below and not floor
+            found["within"] += any(start < c <= limit for start, c, limit in zip(starts, checkpoints, cut))
+    return found
+
+
 def every_call(data, n, worker, event, lent):
     """What each call gives on a log of n workers, with so many words lent of each kind, each of them 7."""
     words, workers = [7] * lent, [worker, 0, n - 1]
@@ -809,8 +866,9 @@ def check_forms(data):
 
 def check_random(logs_tried):
     """The number of logs with two receives of one send, of breakpoints tried, and of those whose latest checkpoints are no
-    plan."""
+    plan; and the counts of check_floor."""
     repeats = tried = lowered = 0
+    floor = Counter()
     for seed, form in itertools.product(range(logs_tried), FORMS):
         workers = random_workers(seed, form)
         data = logs.build(workers, form=form)
@@ -822,17 +880,19 @@ def check_random(logs_tried):
         for i, e in log.every_event():
             check_cuts(log, i, e)
             check_plan(log, data, i, e)
+            floor += check_floor(log, i, e)
             cut, _ = figure2(log, i, e)
             tried += 1
-            lowered += plan_starts(log, cut) != [latest_index(log, w, cut[w]) for w in range(log.n)]
-    return repeats, tried, lowered
+            lowered += plan_starts(log, cut) != latest_starts(log, cut)
+    return repeats, tried, lowered, floor
 
 
 def check_random_sets(logs_tried):
     """Sets 1, 2 and 3 of each log: every worker has a checkpoint of each. A set covers exactly where every event can be replayed
     from its checkpoints. The number of sets that cover, and of those that do not, the receives at fault being of sends at the
-    sender's checkpoint alone."""
+    sender's checkpoint alone; and the counts of check_floor."""
     covering = at_checkpoint = 0
+    floor = Counter()
     for seed, form in itertools.product(range(logs_tried), FORMS):
         rng = random.Random(seed)
         workers = random_workers(seed, form)
@@ -845,21 +905,29 @@ def check_random_sets(logs_tried):
             starts = [log.checkpoints[w][identifier - 1].index for w in range(log.n)]
             expect("replayed from the set", works(log, all_events(log), starts), covers(log, identifier))
             covering += covers(log, identifier)
-            missed = lost(log, all_events(log), starts)
-            at_checkpoint += missed != [] and all(event.send == starts[event.peer] for event in missed)
-    return covering, at_checkpoint
+            at_checkpoint += at_checkpoint_alone(log, starts)
+        for i, e in log.every_event():
+            floor += check_floor(log, i, e)
+    return covering, at_checkpoint, floor
 
 
 def check():
     check_tube()
+    check_smaller()
     check_checkpoints()
     check_sets()
     check_limit()
-    repeats, tried, lowered = check_random(400)
-    covering, at_checkpoint = check_random_sets(400)
+    repeats, tried, lowered, floor = check_random(400)
+    covering, at_checkpoint, more = check_random_sets(400)
+    floor += more
+    assert all(floor[count] > 0 for count in FLOOR), floor
     print("T1 to T10; %d breakpoints of 400 logs of each form, %d of them with starts below the latest" % (tried, lowered))
     print("each log in both forms, %d of them with two receives of one send; packed, also from sections in any order" % repeats)
     print("2400 sets, %d of them cover, %d do not because of sends at the checkpoint alone" % (covering, at_checkpoint))
+    print("sets that cover, within the cut: %(at)d times each start is at the set, in %(lowered)d of these with a later checkpoint "
+        "within the cut; %(later)d times one is later" % floor)
+    print("sets that cover, past the cut in some worker: %(past)d times a start is before the set, in %(within)d of these before a "
+        "checkpoint within the cut" % floor)
 
 
 if __name__ == "__main__":
