@@ -765,15 +765,17 @@ assert len(reference.figure2(reference.read(CONTENT["many_visits"][8:]), 0, 8)[1
 # ---- Accepted logs for the plan, the covering sets and the replay
 
 
-def plan_case(name, workers, worker, event, starts, identifiers=None, units=None, covering=(0,)):
+def plan_case(name, workers, worker, event, starts, identifiers=None, units=None, covering=(0,), cut=None):
     """A case whose starts and what else is given were worked out by hand."""
     log = workers if isinstance(workers, bytes) else build(workers)
     case(name, 0, log, worker, event, covering)
+    reference.check_floor(reference.read(log), worker, event, name)
     _, _, _, found_units, _, words = reference.plan_call(log, worker, event, [0] * (3 * MAX_WORKERS), MAX_WORKERS ** 2)
     n = len(starts)
     assert words[1:3 * n:3] == list(starts), "%s: starts %r by the reference" % (name, words[1:3 * n:3])
     assert identifiers in (None, words[2:3 * n:3]), "%s: identifiers %r by the reference" % (name, words[2:3 * n:3])
     assert units in (None, found_units), "%s: units %d by the reference" % (name, found_units)
+    assert cut in (None, words[0:3 * n:3]), "%s: cut %r by the reference" % (name, words[0:3 * n:3])
 
 
 # Every breakpoint of the tube log with receive 2/2 of kind 3, but 0/2. Set 1 does not cover: receive 1/1 of worker 2 is after its
@@ -786,7 +788,7 @@ for worker, event, starts in (
     plan_case("tube_log_receive_2_2_logged_%d_%d" % (worker, event), tube("logged"), worker, event, starts)
 # receive 2/2 alone is of a send at the checkpoint and without its data: set 1 does not cover
 plan_case("tube_log_receive_1_1_logged", tube(kind_of_1_1="logged"), 2, 3, (0, 1, 2), [0, 1, 1], units=5)
-# both have their data: set 1 covers, and a plan with its checkpoints within the cut starts every worker there
+# both have their data: set 1 covers, and a plan with its checkpoints within the cut starts every worker there, worker 2 at its cut
 plan_case("tube_log_receives_2_2_and_1_1_logged", tube("logged", "logged"), 1, 4, (1, 1, 2), [1, 1, 1], units=19, covering=(0, 1))
 
 
@@ -811,6 +813,7 @@ plan_case("receive_past_the_cut", [
     Worker(0, [("send", 1, 1), ("send", 1, 2), ("receive", 1, 1, 4)], [(1, 1)]),
     Worker(1, [("send", 0, 3), ("receive", 0, 1, 5)]),
 ], 0, 3, (1, 0), [1, 0])
+# set 1 covers, but not all of its checkpoints are within the cut: worker 1 starts before its own
 plan_case("checkpoints_past_the_cut", second_of_three([(1, 1), (3, 2)], receiver_checkpoints=[(2, 1)]), 0, 2,
     (1, 0), [1, 0], covering=(0, 1))
 plan_case("no_checkpoints", second_of_three([]), 1, 2, (0, 0), [0, 0])
@@ -887,8 +890,8 @@ plan_case("each_of_64_lowered_once", changed(
     after_each(["send"], chain(UP + DOWN[1:])), LAST, events=[("logged", 62, 2, 126), ("send", 62, 127)]), 0, 2,
     [1] + [2] * 62 + [0])
 plan_case("all_of_5_lowered_in_mixed_order", after_each(["send"], chain([3, 0, 4, 1, 2])), 2, 1, [0] * 5)
-# 75 rounds with checkpoints after the sends: every start is lowered round by round to 0. No set covers: the first receive of
-# worker 0 after its checkpoint is of the send at that of worker 1
+# 75 rounds with checkpoints after the sends: every start is lowered round by round to 0. No recorded set covers: the first receive
+# of worker 0 after its checkpoint is of the send at that of worker 1
 plan_case("lowered_150_times", after_each(["send"], exchange(75)), 0, 150, (0, 0))
 # with checkpoints after the receives nothing is lowered, and every set covers: later receives are of later sends
 plan_case("lowered_no_time", after_each(["receive"], exchange(75)), 0, 150, (150, 149), covering=(0, 1, 2, 3, 4, 5, 6, 7, 8))
@@ -991,6 +994,38 @@ def thirty_receives(last):
 plan_case("one_receive_of_many_without_data", thirty_receives(19), 1, 30, (0, 13), [0, 2])
 # the data of receive 20 are logged: after set 1 just receive 13, of a send before the checkpoint, lacks its data; after set 2 none
 plan_case("receive_13_of_30_without_data", thirty_receives(20), 1, 30, (20, 13), [2, 2], covering=(0, 2))
+
+# ---- A floor under every start: for "every identifier that covers and whose checkpoints are all at or below the lower cut, the
+# plan starts no worker before that set's checkpoint". In lowered_150_times set 0 alone covers, and every worker starts there. In
+# tube_log set 1 is within the cut but does not cover, and worker 2 starts before it.
+
+# set 1 covers, and every worker starts at it, although its checkpoint of set 2 is within the cut too: worker 0 replays receive 1/3,
+# so worker 1 starts at set 1 and replays receive 2/3, so worker 2 does and replays receive 0/2, so worker 0 does. Set 2 does not
+# cover: receive 1/3 is after it, and of the send at the sender's checkpoint
+plan_case("all_of_3_lowered_to_a_covering_set", [
+    Worker(0, [("send", 1, 1), ("send", 2, 2), ("receive", 1, 3, 7)], [(1, 1), (2, 2)]),
+    Worker(1, [("send", 2, 1), ("receive", 2, 3, 5), ("send", 0, 6)], [(1, 1), (3, 2)]),
+    Worker(2, [("send", 0, 1), ("receive", 0, 2, 3), ("send", 1, 4)], [(1, 1), (3, 2)]),
+], 0, 3, (1, 1, 1), [1, 1, 1], covering=(0, 1), cut=[3, 3, 3])
+# set 1 covers. Worker 2 starts at set 2 and replays receive 1/4, so worker 1 starts at set 2 too and replays receive 0/2, so
+# worker 0 starts at set 1. Set 2 does not cover: receive 0/2 is after it, and of the send at the sender's checkpoint
+plan_case("one_start_at_a_covering_set_and_two_after_it", [
+    Worker(0, [("send", 2, 1), ("send", 1, 2)], [(1, 1), (2, 2)]),
+    Worker(1, [("send", 2, 1), ("send", 2, 2), ("receive", 0, 2, 3), ("send", 2, 4)], [(1, 1), (2, 2), (4, 3)]),
+    Worker(2, [("receive", 1, 1, 2), ("receive", 1, 2, 3), ("receive", 1, 4, 5)], [(1, 1), (2, 2)]),
+], 2, 3, (1, 2, 2), [1, 2, 2], covering=(0, 1), cut=[2, 4, 3])
+
+# Set 2 is at the last event of every worker.
+AT_THE_LAST = [
+    Worker(0, [("send", 1, 1)], [(1, 2)]),
+    Worker(1, [("receive", 0, 1, 2), ("send", 2, 3)], [(1, 1), (2, 2)]),
+    Worker(2, [("receive", 1, 2, 4), ("send", 0, 5)], [(2, 2)]),
+]
+# set 2 covers, but its checkpoint of worker 2 is one event past the cut. So worker 2 replays receive 1/2, and worker 1 starts
+# before its checkpoint of set 2, although that is within the cut
+plan_case("covering_set_past_the_cut_in_one_worker", AT_THE_LAST, 2, 1, (1, 1, 0), [2, 1, 0], covering=(0, 2), cut=[1, 2, 1])
+# one event later every checkpoint of set 2 is at the cut: every worker starts there, and nothing is replayed
+plan_case("covering_set_at_the_cut", AT_THE_LAST, 2, 2, (1, 2, 2), [2, 2, 2], units=0, covering=(0, 2), cut=[1, 2, 2])
 
 
 def files():
