@@ -84,6 +84,18 @@ impl Worker {
     }
 }
 
+/// The index of each worker's checkpoint with an identifier, where every worker has one; for 0 the initial states are meant.
+pub fn checkpoint_set(workers: &[Worker], identifier: u32) -> Option<Vec<u32>> {
+    if identifier == 0 {
+        return Some(vec![0; workers.len()]);
+    }
+    let index = |worker: &Worker| {
+        let checkpoint = worker.checkpoints.iter().find(|c| c.1 == identifier);
+        checkpoint.map(|c| c.0)
+    };
+    workers.iter().map(index).collect()
+}
+
 /// A log's content.
 #[derive(Clone, Debug, Default, PartialEq, Eq)]
 pub struct Description {

@@ -2,7 +2,7 @@
 
 use evidence::compare::Seen;
 use evidence::damage::damaged;
-use evidence::description::{packed_length, set_form, Description, Worker};
+use evidence::description::{checkpoint_set, packed_length, set_form, Description, Worker};
 use evidence::failure::{words, Call, Difference, Meaning};
 use evidence::random::Random;
 use evidence::runs::{any_log, make_alike, repeat_any, run, Shape};
@@ -186,20 +186,8 @@ impl Model {
         units
     }
 
-    /// The index of each worker's checkpoint t, where every worker has one; for t = 0 the initial states are meant.
-    fn set(&self, t: u32) -> Option<Vec<u32>> {
-        if t == 0 {
-            return Some(vec![0; self.workers.len()]);
-        }
-        let index = |worker: &Worker| {
-            let checkpoint = worker.checkpoints.iter().find(|c| c.1 == t);
-            checkpoint.map(|c| c.0)
-        };
-        self.workers.iter().map(index).collect()
-    }
-
     fn covers(&self, t: u32) -> bool {
-        let Some(set) = self.set(t) else {
+        let Some(set) = checkpoint_set(&self.workers, t) else {
             return false;
         };
         self.workers.iter().zip(&set).all(|(worker, &own)| {
@@ -480,7 +468,7 @@ fn covering_sets(model: &Model, log: &[u8], random: &Random, seen: &mut Seen) {
         let covers = model.covers(t);
         call("reference::covers").returned(number, 0);
         call("reference::covers").same([differ(ANSWER, &yes, &[u32::from(covers)])]);
-        let set = model.set(t);
+        let set = checkpoint_set(&model.workers, t);
         let holds = |test: fn(&Model, &[u32], &[u32]) -> bool| {
             set.as_ref().is_some_and(|set| test(model, &all, set))
         };
