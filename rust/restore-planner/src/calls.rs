@@ -193,7 +193,8 @@ pub fn lower_cut(
 }
 
 /// Writes the plan of a breakpoint to 3 × n words (cut, start, identifier of each worker), and the visits, events, units and the
-/// workers word to four totals. Scratch is n × n words.
+/// workers word to four totals. Scratch is n × n words. For every identifier that covers and whose checkpoints are all at or below the
+/// cut, no start is before the worker's checkpoint with that identifier.
 pub fn plan(
     log: &[u8],
     worker: u32,

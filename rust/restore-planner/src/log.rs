@@ -116,7 +116,8 @@ impl<'a> Log<'a> {
     /// Whether an identifier covers: every worker has a checkpoint with it, and every receive after its worker's checkpoint, of a
     /// send with index smaller than or equal to the sender's checkpoint, has its data logged. Identifier 0 means the initial states.
     ///
-    /// A replay of all events can start from the checkpoints of an identifier that covers.
+    /// A replay of all events can start from the checkpoints of an identifier that covers. Where they are all at or below a breakpoint's
+    /// lower cut, its plan starts no worker before them.
     ///
     /// ```
     /// use restore_planner::Log;
@@ -139,6 +140,9 @@ impl<'a> Log<'a> {
     }
 
     /// The restore plan of a breakpoint: the latest checkpoints from which the events within its lower cut can be replayed.
+    ///
+    /// For every identifier that [covers](Log::covers) and whose checkpoints are all at or below the lower cut, no worker starts before
+    /// its checkpoint with that identifier.
     ///
     /// ```
     /// use restore_planner::{Breakpoint, Log, WorkerPlan};
@@ -169,7 +173,8 @@ impl<'a> Log<'a> {
         Ok(Plan::new(&words, totals))
     }
 
-    /// The restore plan of a breakpoint, and one step for each worker number of the list from the planned starts.
+    /// The restore plan of a breakpoint, as [`Log::plan`] gives it, and one step for each worker number of the list from the planned
+    /// starts.
     ///
     /// A step that is not done, of a number that is no worker's too, is an answer as any other and the list goes on. Each step
     /// tests the whole log again and has its positions kept: for a long list on a long log, [`Log::plan`] and

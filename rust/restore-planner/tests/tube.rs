@@ -373,6 +373,30 @@ fn a_replay_of_all_events_from_a_covering_set() {
     assert_eq!(replay.positions(), [3, 4, 3]);
 }
 
+/// With set 1 covering, a plan starts no worker before it where all its checkpoints are at or below the cut. Where one is above the cut,
+/// that worker starts before it.
+#[test]
+fn plans_beside_a_covering_set() {
+    let bytes = tube_with_data_logged(&[RECEIVE_OF_2_2, RECEIVE_OF_1_1]);
+    let log = Log::new(&bytes).unwrap();
+    assert_eq!(log.covers(1), Ok(true));
+    let set = [1, 1, 2];
+    for (at, cut, starts) in [
+        (at(0, 1), [1, 0, 1], [1, 0, 0]),
+        (at(2, 3), [0, 1, 3], [0, 1, 2]),
+        (at(0, 2), [2, 3, 2], set),
+        (at(0, 3), [3, 3, 2], set),
+        (at(1, 4), [3, 4, 2], set),
+    ] {
+        let plan = log.plan(at).unwrap();
+        let found = plan.workers.iter().map(|entry| (entry.cut, entry.start));
+        assert!(found.eq(cut.into_iter().zip(starts)), "{at}: {plan:?}");
+    }
+    // By itself the tube log's set 1 does not cover, and worker 2 starts before it.
+    assert_eq!(tube().covers(1), Ok(false));
+    assert_eq!(tube_plan().workers[2].start, 0);
+}
+
 #[test]
 fn a_replay_by_steps() {
     let mut replay = Replay::new(&tube(), &tube_plan()).unwrap();
