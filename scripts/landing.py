@@ -5,7 +5,8 @@
     scripts/landing.py BASE --log FILE                    and the seconds of a run of the gate
     scripts/landing.py BASE --before FILE --after FILE    and those of two runs side by side
 
-FILE is the saved output of a run: { time .ci/run; } > FILE 2>&1. A file of a crate that moved counts as removed and added.
+FILE is the saved output of a run: { time .ci/run; } > FILE 2>&1. A file that moved is compared with what it was where git knows it
+again, and its lines count for the crate that it is in now.
 The seconds of a crate's edits are the sum over its must-fail edits, which run several at a time; the whole run's are those
 that `time` wrote, and are left out where it did not.
 """
@@ -43,8 +44,11 @@ def in_order(names):
 def changes(base):
     """By crate and part, the lines added and removed."""
     found = {}
-    for line in git("diff", "--numstat", "--no-renames", base, "HEAD", "--", ":/crates").splitlines():
-        added, removed, path = line.split("\t")
+    words = iter(git("diff", "--numstat", "--find-renames", "-z", base, "HEAD", "--", ":/crates").split("\0")[:-1])
+    for word in words:
+        added, removed, path = word.split("\t")
+        # of a file that moved the path before and the path now come next
+        path = path or (next(words), next(words))[1]
         crate, part = (path.split("/") + [""])[1:3]
         if part in PARTS:
             lines = found.setdefault(crate, {}).setdefault(part, [0, 0])
