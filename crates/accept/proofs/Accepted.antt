@@ -15,9 +15,10 @@ use Rattle.ranges.proofs.Order.{lt-or-le}
 use Rattle.log.specs.declared.Event.{Event}
 use Rattle.log.specs.Header.{layoutRefusal}
 use Rattle.log.specs.Layout.{workersOf, logOf}
-use Rattle.log.specs.Model.{Workers, workerCount, eventCount, eventOf, checkpointCount, checkpointOf, isSend, isUnlogged, isLogged, isReceive}
+use Rattle.log.specs.Model.{Workers, workerCount, eventCount, eventOf, checkpointCount, checkpointOf, isSend, isReceive}
 use Rattle.lent.proofs.Lent.{peel, or-else-zero}
 use Rattle.log.proofs.Readable.{readable}
+use Rattle.log.proofs.EventKinds.{no-receive, not-send}
 use Rattle.log.proofs.Read.{size-read, workers-few, count-field, checkpoints-field, role-field, worker-within, worker-within′, event-none, event-past, checkpoint-initial, checkpoint-past}
 use Rattle.accept.specs.Records.{kindFault, peerFault, sendFault, fieldFault, stampFault, sendOf, sourceFault, orderFault, eventFault}
 use Rattle.accept.specs.Records.{checkpointFault, recordFault, recordCount, workerFault, someRecord}
@@ -27,19 +28,12 @@ use Rattle.accept.specs.WellFormed.{Sent, WellFormed}
 
 -- ---- an event that is no `noEvent` is an event of a worker
 pub receive-within : (log : Workers) (w x : ℕ) → isReceive (eventOf log w x) ≡ true → (0 < x) × (x ≤ eventCount log w)
-unfolding isReceive isUnlogged isLogged
-receive-within log w zero e = absurd (false≢true (sym (ap isReceive (event-none log w)) ∙ e))
+receive-within log w zero e = absurd (false≢true (sym (ap isReceive (event-none log w) ∙ no-receive) ∙ e))
 receive-within log w (suc k) e =
-    ⊎-elim (λ l. absurd (false≢true (sym (ap isReceive (event-past log w (suc k) l)) ∙ e))) (λ l. (omega arith, l)) (lt-or-le (eventCount log w) (suc k))
-
-pub not-send : (e : Event) → isReceive e ≡ true → isSend e ≡ false
-unfolding isReceive isUnlogged isLogged isSend
-not-send e r = go (eqb (e .kind) 2) refl (eqb (e .kind) 3) refl r
-  where
-    go : (a : Bool) → eqb (e .kind) 2 ≡ a → (b : Bool) → eqb (e .kind) 3 ≡ b → (a || b) ≡ true → eqb (e .kind) 1 ≡ false
-    go true p b q r = rw (eqb-true (e .kind) 2 p)
-    go false p true q r = rw (eqb-true (e .kind) 3 q)
-    go false p false q r = absurd (false≢true r)
+    ⊎-elim
+    (λ l. absurd (false≢true (sym (ap isReceive (event-past log w (suc k) l) ∙ no-receive) ∙ e)))
+    (λ l. (omega arith, l))
+    (lt-or-le (eventCount log w) (suc k))
 
 -- a log whose layout and whose records pass their tests
 module _ (s : List ℕ) (layout : layoutRefusal s ≡ 0) (records : recordsRefusal (workersOf s) ≡ 0) where

@@ -10,9 +10,9 @@ use Rattle.ranges.proofs.Bools.{or-false-left, or-false-right}
 use Rattle.log.specs.declared.Event.{Event}
 use Rattle.log.specs.Model.{Workers, workerCount, eventCount, eventOf, isSend, isReceive, received}
 use Rattle.log.proofs.Read.{event-past}
+use Rattle.log.proofs.EventKinds.{no-send, not-send}
 use Rattle.accept.specs.Records.{kindFault, peerFault, sendFault, fieldFault, stampFault, sendOf, sourceFault, orderFault, anyFault}
 use Rattle.accept.specs.Inner.Message.{names, ownFault, receiveFault}
-use Rattle.accept.proofs.Accepted.{not-send}
 
 module _ (log : Workers) (w k : ℕ) (e : Event) where
   -- the parts of an event's own test, where it passes
@@ -64,11 +64,11 @@ module _ (log : Workers) (w k : ℕ) (e : Event) where
 
   -- a receive whose own tests pass has one exactly beside its send
   pub receive-decides : ownFault log w (eventOf log w k .stamp) e ≡ false → isReceive e ≡ true → receiveFault log w e ≡ anyFault log w k e
-  unfolding receiveFault anyFault fieldFault sourceFault orderFault sendOf isSend
+  unfolding receiveFault anyFault fieldFault sourceFault orderFault sendOf
   receive-decides f receive =
       let p = passed f in
       ⊎-elim
-      (λ past. rw (p .spare, p .kind, p .peer, p .stamp, send-parts (p .kind), p .named, receive, lt-ltb (eventCount log (e .peer)) (e .send) past, event-past log (e .peer) (e .send) past))
+      (λ past. rw (p .spare, p .kind, p .peer, p .stamp, send-parts (p .kind), p .named, receive, lt-ltb (eventCount log (e .peer)) (e .send) past, event-past log (e .peer) (e .send) past, no-send))
       (λ within. rw (p .spare, p .kind, p .peer, p .stamp, send-parts (p .kind), p .named, receive, le-ltb (eventCount log (e .peer)) (e .send) within))
       (lt-or-le (eventCount log (e .peer)) (e .send))
 

@@ -2,27 +2,24 @@
 -- consistent cut that holds an event holds all that happened before it. Assumes nothing.
 use mathlib.Core.Path.{_≡_, refl, _∙_, ap}
 use mathlib.Core.Logic.{⊎-elim, _⊎_, inl, inr}
-use mathlib.Core.Bool.{true, false≢true}
+use mathlib.Core.Bool.{true}
 use mathlib.Core.List.{List}
-use Prim.Native.Nat.{ℕ, zero, suc, _+_, _-_, _<_, _≤_}
+use Prim.Native.Nat.{ℕ, _+_, _-_, _<_, _≤_}
 use native.Mathlib.Nat.{eq-or-lt-of-le}
 use native.Mathlib.Omega.{arith}
 use Rattle.ranges.proofs.Order.{lt-or-le}
-use Rattle.log.specs.Model.{Workers, eventCount, eventOf, isReceive, isUnlogged, isLogged}
-use Rattle.log.proofs.Read.{event-none, event-past}
+use Rattle.log.specs.Model.{Workers, eventCount, eventOf, isReceive}
 use Rattle.accept.specs.Records.{sendOf}
+use Rattle.accept.proofs.Accepted.{receive-within}
 use Rattle.accept.proofs.Stamps.{stamps-rise}
 use Rattle.accept.specs.WellFormed.{WellFormed}
 use Rattle.causality.specs.Happened.{IsEvent, HappenedBefore, earlier, message, through}
 use Rattle.lent.specs.Lent.{at}
 use Rattle.causality.specs.Cut.{Consistent}
 
--- a receive is an event of the log
+-- a receive is an event of the log: `receive-within`, as an `IsEvent`
 pub receive-event : (log : Workers) (w x : ℕ) → isReceive (eventOf log w x) ≡ true → IsEvent log w x
-unfolding isReceive isUnlogged isLogged
-receive-event log w zero r = absurd (false≢true (rw (event-none log w) at r))
-receive-event log w (suc x) r =
-    (omega arith, ⊎-elim (λ l. absurd (false≢true (rw (event-past log w (suc x) l) at r))) (λ l. l) (lt-or-le (eventCount log w) (suc x)))
+receive-event log w x r = receive-within log w x r
 
 -- the send of a receive within a consistent cut is within it
 pub consistent-send : (log : Workers) (cut : List ℕ) → Consistent log cut → (w x : ℕ) → x ≤ at cut w → isReceive (eventOf log w x) ≡ true

@@ -20,6 +20,7 @@ use Rattle.log.specs.declared.Event.{Event}
 use Rattle.log.specs.declared.Checkpoint.{Checkpoint}
 use Rattle.log.specs.Model.{Workers, workerCount, eventCount, eventOf, checkpointCount, checkpointOf, initial, isReceive, isLogged, isUnlogged}
 use Rattle.log.proofs.Read.{worker-within, checkpoint-initial, count-past}
+use Rattle.log.proofs.EventKinds.{not-logged}
 use Rattle.accept.specs.WellFormed.{WellFormed}
 use Rattle.lent.specs.Lent.{at}
 use Rattle.causality.specs.Cut.{IsCut}
@@ -70,11 +71,6 @@ module _ (log : Workers) (t : ℕ) where
 pub set-initial : (log : Workers) → WellFormed log → (w c : ℕ) → isSet log 0 w c ≡ true → c ≡ 0
 unfolding isSet
 set-initial log ok w c e = set-unique log 0 ok w c 0 e (rw (may-initial log w, checkpoint-initial log w))
-
--- an event of kind 2 is not of kind 3
-not-logged : (e : Event) → isUnlogged e ≡ true → isLogged e ≡ false
-unfolding isUnlogged isLogged
-not-logged e q = rw (eqb-true (e .kind) 2 q)
 
 -- a receive that is not of kind 2 is of kind 3
 unless-unlogged : (e : Event) → isReceive e ≡ true → (isUnlogged e ≡ true → ⊥) → isLogged e ≡ true
