@@ -2,7 +2,7 @@
 -- Assumes nothing.
 use mathlib.Core.Path.{_≡_, refl, sym, _∙_, ap}
 use mathlib.Core.Bool.{Bool, true, false, not, cond, _&&_, _||_, false≢true}
-use mathlib.Core.Logic.{_⊎_, inl, inr, ⊎-elim}
+use mathlib.Core.Logic.{_⊎_, inl, inr, ⊎-elim, _≢_}
 use mathlib.Core.List.{List}
 use Prim.Native.Nat.{ℕ, zero, suc, _+_, _<_, _≤_}
 use native.Mathlib.Numerals.{add-one}
@@ -12,13 +12,14 @@ use lib.Dec.{eqb, leb, ltb}
 use Rattle.ranges.proofs.Any.{any-each}
 use Rattle.ranges.proofs.Bools.{or-false-left, or-false-right, and-true-left, and-true-right, and-false-right}
 use Rattle.ranges.proofs.Order.{lt-or-le}
+use Rattle.log.specs.declared.Kind.the-variants.{Rest}
 use Rattle.log.specs.declared.Event.{Event}
 use Rattle.log.specs.Header.{layoutRefusal}
 use Rattle.log.specs.Layout.{workersOf, logOf}
 use Rattle.log.specs.Model.{Workers, workerCount, eventCount, eventOf, checkpointCount, checkpointOf, isSend, isReceive}
 use Rattle.lent.proofs.Lent.{peel, or-else-zero}
 use Rattle.log.proofs.Readable.{readable}
-use Rattle.log.proofs.EventKinds.{no-receive, not-send}
+use Rattle.log.proofs.EventKinds.{no-receive, not-send, some-kind}
 use Rattle.log.proofs.Read.{size-read, workers-few, count-field, checkpoints-field, role-field, worker-within, worker-within′, event-none, event-past, checkpoint-initial, checkpoint-past}
 use Rattle.accept.specs.Records.{kindFault, peerFault, sendFault, fieldFault, stampFault, sendOf, sourceFault, orderFault, eventFault}
 use Rattle.accept.specs.Records.{checkpointFault, recordFault, recordCount, workerFault, someRecord}
@@ -34,6 +35,10 @@ receive-within log w (suc k) e =
     (λ l. absurd (false≢true (sym (ap isReceive (event-past log w (suc k) l) ∙ no-receive) ∙ e)))
     (λ l. (omega arith, l))
     (lt-or-le (eventCount log w) (suc k))
+
+-- an event of a well-formed log is of one of the three kinds
+pub known-kind : (log : Workers) → WellFormed log → (w x : ℕ) → 0 < x → x ≤ eventCount log w → eventOf log w x .kind ≢ Rest
+known-kind log ok w x some here = some-kind (eventOf log w x) (ok .kinds w x some here)
 
 -- a log whose layout and whose records pass their tests
 module _ (s : List ℕ) (layout : layoutRefusal s ≡ 0) (records : recordsRefusal (workersOf s) ≡ 0) where

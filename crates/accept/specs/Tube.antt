@@ -2,6 +2,7 @@
 -- Assumes nothing.
 use mathlib.Core.List.{List, [], _∷_}
 use Prim.Native.Nat.{ℕ}
+use Rattle.log.specs.declared.Kind.the-variants.{Send, Unlogged}
 use Rattle.log.specs.Model.{Log}
 
 -- the bytes of the log, packed
@@ -34,22 +35,22 @@ tubeLog =
           record {
             role = 3;
             events =
-                record { kind = 2; peer = 2; spare = 0; send = 1; stamp = 2 } ∷ record { kind = 2; peer = 1; spare = 0; send = 3; stamp = 5 } ∷
-                record { kind = 1; peer = 1; spare = 0; send = 0; stamp = 6 } ∷ [];
+                record { kind = Unlogged; peer = 2; spare = 0; send = 1; stamp = 2 } ∷ record { kind = Unlogged; peer = 1; spare = 0; send = 3; stamp = 5 } ∷
+                record { kind = Send; peer = 1; spare = 0; send = 0; stamp = 6 } ∷ [];
             checkpoints = record { index = 1; identifier = 1 } ∷ [];
           } ∷
           record {
             role = 1;
             events =
-                record { kind = 1; peer = 2; spare = 0; send = 0; stamp = 1 } ∷ record { kind = 2; peer = 2; spare = 0; send = 2; stamp = 3 } ∷
-                record { kind = 1; peer = 0; spare = 0; send = 0; stamp = 4 } ∷ record { kind = 2; peer = 0; spare = 0; send = 3; stamp = 7 } ∷ [];
+                record { kind = Send; peer = 2; spare = 0; send = 0; stamp = 1 } ∷ record { kind = Unlogged; peer = 2; spare = 0; send = 2; stamp = 3 } ∷
+                record { kind = Send; peer = 0; spare = 0; send = 0; stamp = 4 } ∷ record { kind = Unlogged; peer = 0; spare = 0; send = 3; stamp = 7 } ∷ [];
             checkpoints = record { index = 1; identifier = 1 } ∷ [];
           } ∷
           record {
             role = 0;
             events =
-                record { kind = 1; peer = 0; spare = 0; send = 0; stamp = 1 } ∷ record { kind = 1; peer = 1; spare = 0; send = 0; stamp = 2 } ∷
-                record { kind = 2; peer = 1; spare = 0; send = 1; stamp = 3 } ∷ [];
+                record { kind = Send; peer = 0; spare = 0; send = 0; stamp = 1 } ∷ record { kind = Send; peer = 1; spare = 0; send = 0; stamp = 2 } ∷
+                record { kind = Unlogged; peer = 1; spare = 0; send = 1; stamp = 3 } ∷ [];
             checkpoints = record { index = 2; identifier = 1 } ∷ [];
           } ∷ [];
     }

@@ -3,7 +3,7 @@
 use mathlib.Core.Path.{_≡_, refl}
 use mathlib.Core.Bool.{Bool, true, false, cond, _&&_}
 use mathlib.Core.List.{List, [], _∷_}
-use Prim.Native.Nat.{ℕ, zero, suc, _+_, _-_, _*_, _^_, _<_, _≤_}
+use Prim.Native.Nat.{ℕ, zero, suc, _+_, _*_, _^_, _<_, _≤_}
 use native.Mathlib.Nat.{le-trans, mul-le-mul-right, mul-le-mul}
 use native.Mathlib.Omega.{arith}
 use borrow.Author.Tests.{leb-true, le-leb}
@@ -12,6 +12,8 @@ use lib.ListN.{getD}
 use Rattle.ranges.proofs.Bools.{and-true-left, and-true-right}
 use Rattle.ranges.proofs.Sum.{sum-bound, sum-le}
 use Rattle.log.specs.Limits.{maxWorkers, maxEvents}
+use Rattle.log.specs.declared.Kind.{Kind}
+use Rattle.log.specs.Kind.{column}
 use Rattle.log.specs.Model.{Workers, workerCount, roleOf, eventOf}
 use Rattle.accept.specs.WellFormed.{WellFormed}
 use Rattle.lent.specs.Lent.{at}
@@ -57,12 +59,12 @@ abbrev small : ℕ → Bool
 small x = leb x 9
 
 -- no entry of the built-in table is above 9: one test of the whole table
-pub table-bound : (role kind : ℕ) → builtIn role kind ≤ 9
+pub table-bound : (role : ℕ) (kind : Kind) → builtIn role kind ≤ 9
 unfolding builtIn
-table-bound role kind = leb-true _ 9 (every-at small 0 refl (getD rows role []) (kind - 1) (every-at (every small) [] refl rows role refl))
+table-bound role kind = leb-true _ 9 (every-at small 0 refl (getD rows role []) (column kind) (every-at (every small) [] refl rows role refl))
 
 -- the units of some events of one kind
-pub product-few : (n role kind units : ℕ) → n ≤ maxEvents → units ≡ builtIn role kind → n * units ≤ maxEvents * 9
+pub product-few : (n role : ℕ) (kind : Kind) (units : ℕ) → n ≤ maxEvents → units ≡ builtIn role kind → n * units ≤ maxEvents * 9
 product-few n role kind units few q = let most : units ≤ 9 = rw q (table-bound role kind) in mul-le-mul few most
 
 module _ (log : Workers) (ok : WellFormed log) (cut : List ℕ) (isCut : IsCut log cut) (starts : List ℕ) where
@@ -81,7 +83,7 @@ module _ (log : Workers) (ok : WellFormed log) (cut : List ℕ) (isCut : IsCut l
   events-fit = omega (arith, events-bound)
 
   -- by a table with no entry above m, at most 65,535 times m for each worker
-  pub units-bound : (table : Table) (m : ℕ) → ((role kind : ℕ) → table role kind ≤ m) → unitsOf table log cut starts ≤ workerCount log * (maxEvents * m)
+  pub units-bound : (table : Table) (m : ℕ) → ((role : ℕ) (kind : Kind) → table role kind ≤ m) → unitsOf table log cut starts ≤ workerCount log * (maxEvents * m)
   unfolding unitsOf workerUnits eventUnits
   units-bound table m most =
       sum-bound (workerUnits table log cut starts) (workerCount log) (maxEvents * m)

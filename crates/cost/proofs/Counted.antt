@@ -1,7 +1,6 @@
 -- The units of a worker's replayed events, from the number of its receives and the sum of the columns of their kinds.
 -- Assumes nothing.
 use mathlib.Core.Path.{_≡_, refl}
-use mathlib.Core.Logic.{⊎-elim}
 use mathlib.Core.List.{List}
 use Prim.Native.Nat.{ℕ, _+_, _-_, _*_, _<_, _≤_}
 use native.Mathlib.Nat.{suc-mul}
@@ -9,15 +8,18 @@ use native.Mathlib.Numerals.{add-one}
 use native.Mathlib.Omega.{arith}
 use borrow.Author.Tests.{le-leb, lt-leb}
 use Rattle.ranges.specs.Fold.{sumBelow}
-use Rattle.ranges.proofs.Order.{lt-or-le}
 use Rattle.ranges.proofs.Sum.{sum-more, sum-bound}
+use Rattle.log.specs.declared.Kind.{Kind}
+use Rattle.log.specs.declared.Kind.the-variants.{Send, Unlogged, Logged, Rest}
 use Rattle.log.specs.declared.Event.{Event}
-use Rattle.log.specs.Model.{Workers, eventCount, roleOf, eventOf, isUnlogged, isLogged, isReceive, received, column}
+use Rattle.log.specs.Kind.{column}
+use Rattle.log.specs.Model.{Workers, eventCount, roleOf, eventOf, received}
+use Rattle.log.proofs.EventKinds.{received-of}
 use Rattle.accept.specs.WellFormed.{WellFormed}
+use Rattle.accept.proofs.Accepted.{known-kind}
 use Rattle.lent.specs.Lent.{at}
 use Rattle.cost.specs.Cost.{Table, eventUnits}
 use Rattle.cost.specs.Inner.Counted.{countedUnits}
-use Rattle.cost.proofs.Held.{kind-some}
 
 module _ (table : Table) (log : Workers) (starts : List ℕ) (w : ℕ) where
   -- events up to the start add nothing
@@ -28,7 +30,7 @@ module _ (table : Table) (log : Workers) (starts : List ℕ) (w : ℕ) where
       omega arith
 
   -- an event after the start adds its units
-  units-more : (k kind : ℕ) → at starts w ≤ k → eventOf log w (k + 1) .kind ≡ kind
+  units-more : (k : ℕ) (kind : Kind) → at starts w ≤ k → eventOf log w (k + 1) .kind ≡ kind
       → sumBelow (eventUnits table log starts w) (k + 1) ≡ sumBelow (eventUnits table log starts w) k + table (roleOf log w) kind
   unfolding eventUnits
   units-more k kind h q = rw (sum-more (eventUnits table log starts w) k, le-leb (at starts w) k h, q)
@@ -42,23 +44,10 @@ pub record Counted (table : Table) (log : Workers) (starts : List ℕ) (w k rece
   pub receive : receives ≡ unlogged + logged
   pub columned : columns ≡ unlogged + 2 * logged
   pub units : sumBelow (eventUnits table log starts w) k
-      ≡ sends * table (roleOf log w) 1 + unlogged * table (roleOf log w) 2 + logged * table (roleOf log w) 3
+      ≡ sends * table (roleOf log w) Send + unlogged * table (roleOf log w) Unlogged + logged * table (roleOf log w) Logged
 
 more-times : (n t : ℕ) → (n + 1) * t ≡ n * t + t
 more-times n t = rw (add-one n) (suc-mul n t)
-
--- the numbers of a kind
-of-send : (e : Event) → e .kind ≡ 1 → (received e ≡ 0) × (column e ≡ 0)
-unfolding received column isReceive isUnlogged isLogged
-of-send e q = (rw q, rw q)
-
-of-unlogged : (e : Event) → e .kind ≡ 2 → (received e ≡ 1) × (column e ≡ 1)
-unfolding received column isReceive isUnlogged isLogged
-of-unlogged e q = (rw q, rw q)
-
-of-logged : (e : Event) → e .kind ≡ 3 → (received e ≡ 1) × (column e ≡ 2)
-unfolding received column isReceive isUnlogged isLogged
-of-logged e q = (rw q, rw q)
 
 module _ (table : Table) (log : Workers) (starts : List ℕ) (w : ℕ) where
   pub counted-none : Counted table log starts w (at starts w) 0 0
@@ -79,50 +68,43 @@ module _ (table : Table) (log : Workers) (starts : List ℕ) (w : ℕ) where
         rw (sent, kept, lost) (so .units)
 
     module _ (e : Event) (q : e ≡ eventOf log w (k + 1)) where
-      units-of : (kind : ℕ) → e .kind ≡ kind
+      units-of : (kind : Kind) → e .kind ≡ kind
           → sumBelow (eventUnits table log starts w) (k + 1) ≡ sumBelow (eventUnits table log starts w) k + table (roleOf log w) kind
       units-of kind r = units-more table log starts w k kind (omega (arith, so .all)) (rw q at r)
 
       -- one event more
-      pub counted-more : WellFormed log → k < eventCount log w → Counted table log starts w (k + 1) (receives + received e) (columns + column e)
-      counted-more ok inside =
-          let kind = kind-some log ok w (k + 1) (omega arith) (omega arith) in
-          let low : 0 < e .kind = rw q (kind .0) in
-          let high : e .kind < 4 = rw q (kind .1) in
-          ⊎-elim (λ l. send (omega arith)) (λ l. ⊎-elim (λ m. unlogged (omega arith)) (λ m. logged (omega arith)) (lt-or-le (e .kind) 3)) (lt-or-le (e .kind) 2)
+      pub counted-more : WellFormed log → k < eventCount log w → Counted table log starts w (k + 1) (receives + received e) (columns + column (e .kind))
+      counted-more ok inside = go (e .kind) refl
         where
-          send : e .kind ≡ 1 → Counted table log starts w (k + 1) (receives + received e) (columns + column e)
-          send r =
+          go : (kind : Kind) → e .kind ≡ kind → Counted table log starts w (k + 1) (receives + received e) (columns + column kind)
+          go Send r =
               record {
                 sends = so .sends + 1;
                 unlogged = so .unlogged;
                 logged = so .logged;
                 all = omega (arith, so .all);
-                receive = omega (arith, so .receive, of-send e r .0);
-                columned = omega (arith, so .columned, of-send e r .1);
-                units = omega (arith, units-of 1 r, so .units, more-times (so .sends) (table (roleOf log w) 1));
+                receive = omega (arith, so .receive, received-of e Send r);
+                columned = omega (arith, so .columned);
+                units = omega (arith, units-of Send r, so .units, more-times (so .sends) (table (roleOf log w) Send));
               }
-
-          unlogged : e .kind ≡ 2 → Counted table log starts w (k + 1) (receives + received e) (columns + column e)
-          unlogged r =
+          go Unlogged r =
               record {
                 sends = so .sends;
                 unlogged = so .unlogged + 1;
                 logged = so .logged;
                 all = omega (arith, so .all);
-                receive = omega (arith, so .receive, of-unlogged e r .0);
-                columned = omega (arith, so .columned, of-unlogged e r .1);
-                units = omega (arith, units-of 2 r, so .units, more-times (so .unlogged) (table (roleOf log w) 2));
+                receive = omega (arith, so .receive, received-of e Unlogged r);
+                columned = omega (arith, so .columned);
+                units = omega (arith, units-of Unlogged r, so .units, more-times (so .unlogged) (table (roleOf log w) Unlogged));
               }
-
-          logged : e .kind ≡ 3 → Counted table log starts w (k + 1) (receives + received e) (columns + column e)
-          logged r =
+          go Logged r =
               record {
                 sends = so .sends;
                 unlogged = so .unlogged;
                 logged = so .logged + 1;
                 all = omega (arith, so .all);
-                receive = omega (arith, so .receive, of-logged e r .0);
-                columned = omega (arith, so .columned, of-logged e r .1);
-                units = omega (arith, units-of 3 r, so .units, more-times (so .logged) (table (roleOf log w) 3));
+                receive = omega (arith, so .receive, received-of e Logged r);
+                columned = omega (arith, so .columned);
+                units = omega (arith, units-of Logged r, so .units, more-times (so .logged) (table (roleOf log w) Logged));
               }
+          go Rest r = absurd (known-kind log ok w (k + 1) (omega arith) (omega arith) (rw q at r))

@@ -1,22 +1,17 @@
 -- Plan words that are held over an accepted log: each worker's words, and its replayed events and units as a loop adds them up.
 -- Assumes nothing.
-use mathlib.Core.Path.{_≡_, refl, sym}
-use mathlib.Core.Bool.{Bool, true, false, _||_}
-use mathlib.Core.Logic.{⊎-elim}
+use mathlib.Core.Path.{_≡_, sym}
 use mathlib.Core.List.{List}
 use Prim.Native.Nat.{ℕ, _+_, _-_, _*_, _^_, _<_, _≤_}
 use native.Mathlib.Omega.{arith}
-use borrow.Author.Tests.{eqb-true}
-use lib.Dec.{eqb}
 use lib.ListN.{length}
 use Rattle.ranges.specs.Fold.{sumBelow}
 use Rattle.ranges.proofs.Sum.{sum-more, sum-grows}
 use Rattle.ranges.proofs.Tabulate.{getD-tabulate, tabulate-list}
 use Rattle.log.specs.Limits.{maxEvents}
-use Rattle.log.specs.Model.{Workers, workerCount, eventCount, eventOf, isSend, isUnlogged, isLogged, isReceive}
+use Rattle.log.specs.Model.{Workers, workerCount, eventCount}
 use Rattle.log.specs.Layout.{workersOf}
 use Rattle.accept.specs.Refusal.{logRefusal}
-use Rattle.accept.specs.WellFormed.{WellFormed}
 use Rattle.accept.proofs.Accepted.{well-formed}
 use Rattle.lent.specs.Lent.{at}
 use Rattle.cost.specs.Words.{cutIn, startIn, cutsIn, startsIn}
@@ -45,18 +40,6 @@ pub starts-are : (log : Workers) (words starts : List ℕ) → length starts ≡
     → startsIn log words ≡ starts
 unfolding startsIn
 starts-are log words starts long same = sym (tabulate-list (startIn words) (workerCount log) 0 starts long (λ w h. sym (same w h)))
-
--- an event's kind is 1, 2 or 3
-pub kind-some : (log : Workers) → WellFormed log → (w x : ℕ) → 0 < x → x ≤ eventCount log w → (0 < eventOf log w x .kind) × (eventOf log w x .kind < 4)
-unfolding isSend isReceive isUnlogged isLogged
-kind-some log ok w x some here = ⊎-elim (λ q. let l = eqb-true (eventOf log w x .kind) 1 q in (omega arith, omega arith)) receive (ok .kinds w x some here)
-  where
-    receive : (eqb (eventOf log w x .kind) 2 || eqb (eventOf log w x .kind) 3) ≡ true → (0 < eventOf log w x .kind) × (eventOf log w x .kind < 4)
-    receive q = go (eqb (eventOf log w x .kind) 2) refl q
-      where
-        go : (b : Bool) → eqb (eventOf log w x .kind) 2 ≡ b → (b || eqb (eventOf log w x .kind) 3) ≡ true → (0 < eventOf log w x .kind) × (eventOf log w x .kind < 4)
-        go true p r = let l = eqb-true (eventOf log w x .kind) 2 p in (omega arith, omega arith)
-        go false p r = let l = eqb-true (eventOf log w x .kind) 3 r in (omega arith, omega arith)
 
 -- what held words give worker w, and the sums of the workers up to it
 pub record HeldWorker (log : Workers) (words : List ℕ) (w : ℕ) : Type 0 where

@@ -6,6 +6,8 @@ use Prim.Native.Nat.{ℕ, _+_, _-_}
 use lib.Dec.{leb}
 use lib.ListN.{getD}
 use Rattle.ranges.specs.Fold.{sumBelow}
+use Rattle.log.specs.declared.Kind.{Kind}
+use Rattle.log.specs.Kind.{column}
 use Rattle.log.specs.Model.{Workers, workerCount, roleOf, eventOf}
 use Rattle.lent.specs.Lent.{at}
 
@@ -18,7 +20,7 @@ eventsOf log cut starts = sumBelow (replayed cut starts) (workerCount log)
 
 -- units for a role and a kind
 abbrev pub Table : Type 0
-Table = ℕ → ℕ → ℕ
+Table = ℕ → Kind → ℕ
 
 -- event k + 1 of worker w counts where it is after the start
 unfoldable pub eventUnits : Table → Workers → List ℕ → ℕ → ℕ → ℕ
@@ -37,4 +39,4 @@ rows = (2 ∷ 3 ∷ 5 ∷ []) ∷ (2 ∷ 4 ∷ 6 ∷ []) ∷ (3 ∷ 8 ∷ 9 ∷ 
 
 -- "this table (send, receive without data, receive with data)"
 unfoldable pub builtIn : Table
-builtIn role kind = getD (getD rows role []) (kind - 1) 0
+builtIn role kind = getD (getD rows role []) (column kind) 0

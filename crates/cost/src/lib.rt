@@ -1,10 +1,12 @@
 // The words of a plan, cut, start and identifier for each worker, and its replayed events and their units.
 
+use log::Kind;
 ghost use mathlib.Core.Path.{_≡_};
 ghost use Prim.Native.Nat.{_+_, _*_, _<_, _≤_};
 ghost use lib.ListN.{length};
 ghost use Rattle.ranges.specs.Fold.{tabulate};
 ghost use Rattle.log.specs.Limits.{maxEvents};
+ghost use Rattle.log.specs.Kind.{column};
 ghost use Rattle.log.specs.Layout.{workersOf};
 ghost use Rattle.log.specs.Model.{workerCount};
 ghost use Rattle.accept.specs.Refusal.{logRefusal};
@@ -44,11 +46,12 @@ pub fn write_starts(words: &[u32], positions: &mut [u32])
 // The units of an event: a row for each role, in it a send, a receive without its data, a receive with it.
 const UNITS: [[u64; 3]; 4] = [[2, 3, 5], [2, 4, 6], [3, 8, 9], [2, 5, 7]];
 
-// The units of a role, in a column.
-fn units_for(role: usize, column: usize) -> u64
-    requires { ⌜ (role < 4) × (column < 3) ⌝ }
-    ensures answer { λ r. ⌜ r ≡ builtIn role (column + 1) ⌝ }
+// The units of a role and a kind.
+fn units_for(role: usize, kind: Kind) -> u64
+    requires { ⌜ (role < 4) × (column kind < 3) ⌝ }
+    ensures answer { λ r. ⌜ r ≡ builtIn role kind ⌝ }
 {
+    let column = log::column(kind) as usize;
     UNITS[role][column]
 }
 
@@ -60,7 +63,9 @@ fn counted_units(role: usize, events: u32, receives: u32, columns: u32) -> u64
     let sends = (events - receives) as u64;
     let logged = (columns - receives) as u64;
     let unlogged = receives as u64 - logged;
-    sends * units_for(role, 0) + unlogged * units_for(role, 1) + logged * units_for(role, 2)
+    sends * units_for(role, Kind::Send)
+        + unlogged * units_for(role, Kind::Unlogged)
+        + logged * units_for(role, Kind::Logged)
 }
 
 // The units of the replayed events of worker w. Receives are counted, whatever the order of the kinds, and the table is read at the end.
@@ -77,7 +82,8 @@ fn worker_units(log: &[u8], words: &[u32], w: usize) -> u64
     while k < cut {
         let e = log::event_at(log, w, k + 1);
         receives += log::received(e);
-        columns += log::column(e);
+        let kind = e.kind;
+        columns += log::column(kind);
         k += 1;
     }
     counted_units(

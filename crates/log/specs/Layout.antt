@@ -9,6 +9,7 @@ use Rattle.ranges.specs.Fold.{tabulate}
 use Rattle.bytes_le.specs.Little.{le}
 use Rattle.log.specs.declared.Event.{Event}
 use Rattle.log.specs.declared.Checkpoint.{Checkpoint}
+use Rattle.log.specs.Kind.{kindOf}
 use Rattle.log.specs.Model.{Log, Workers, Worker}
 
 -- "Bytes 0-1: form. Bytes 2-3: worker count n. Bytes 4-7: length of the log in bytes"
@@ -70,11 +71,15 @@ eventSection s w = section s (field s w eventOffsetField) (eventSize * field s w
 unfoldable pub checkpointSection : List ℕ → ℕ → List ℕ
 checkpointSection s w = section s (field s w checkpointOffsetField) (checkpointSize * field s w checkpointCountField)
 
+-- "kind (1 byte)", of record k, from 0, of a section
+abbrev pub kindByte : List ℕ → ℕ → ℕ
+kindByte part k = le 1 part (eventSize * k)
+
 -- "kind (1 byte), peer (1 byte), spare (2 bytes, zero), peer event (4 bytes), stamp (4 bytes)": record k, from 0, of a section
 unfoldable pub eventRecord : List ℕ → ℕ → Event
 eventRecord part k =
     record {
-      kind = le 1 part (eventSize * k);
+      kind = kindOf (kindByte part k);
       peer = le 1 part (eventSize * k + 1);
       spare = le 2 part (eventSize * k + 2);
       send = le 4 part (eventSize * k + 4);

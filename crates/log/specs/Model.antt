@@ -3,11 +3,12 @@
 -- Assumes nothing.
 use mathlib.Core.Bool.{Bool, cond, _||_}
 use mathlib.Core.List.{List, [], _∷_}
-use Prim.Native.Nat.{ℕ, _-_}
-use lib.Dec.{eqb}
+use Prim.Native.Nat.{ℕ}
 use lib.ListN.{length, getD}
+use Rattle.log.specs.declared.Kind.the-variants.{Send, Unlogged, Logged, Rest}
 use Rattle.log.specs.declared.Event.{Event}
 use Rattle.log.specs.declared.Checkpoint.{Checkpoint}
+use Rattle.log.specs.Kind.{isKind}
 
 -- a worker's role, its events and its checkpoints, each in record order
 pub record Worker : Type 0 where
@@ -25,7 +26,7 @@ pub record Log : Type 0 where
 
 -- "Index 0 is the paper's ⊥: no event"
 abbrev pub noEvent : Event
-noEvent = record { kind = 0; peer = 0; spare = 0; send = 0; stamp = 0 }
+noEvent = record { kind = Rest; peer = 0; spare = 0; send = 0; stamp = 0 }
 
 -- "The initial state is always a checkpoint, index 0, identifier 0, and isn't recorded"
 abbrev pub initial : Checkpoint
@@ -60,15 +61,15 @@ checkpointCount log w = length (worker log w .checkpoints)
 unfoldable pub checkpointOf : Workers → ℕ → ℕ → Checkpoint
 checkpointOf log w c = getD (initial ∷ worker log w .checkpoints) c initial
 
--- "Kind 1 is a send, 2 a receive without its data logged, 3 a receive with its data logged"
+-- whether an event is a send, a receive without its data logged, a receive with its data logged
 unfoldable pub isSend : Event → Bool
-isSend e = eqb (e .kind) 1
+isSend e = isKind Send (e .kind)
 
 unfoldable pub isUnlogged : Event → Bool
-isUnlogged e = eqb (e .kind) 2
+isUnlogged e = isKind Unlogged (e .kind)
 
 unfoldable pub isLogged : Event → Bool
-isLogged e = eqb (e .kind) 3
+isLogged e = isKind Logged (e .kind)
 
 unfoldable pub isReceive : Event → Bool
 isReceive e = isUnlogged e || isLogged e
@@ -76,10 +77,6 @@ isReceive e = isUnlogged e || isLogged e
 -- the messages that an event receives: 1 for a receive, else 0
 unfoldable pub received : Event → ℕ
 received e = cond (isReceive e) 1 0
-
--- "(send, receive without data, receive with data)": the columns of the table of units, from 0
-unfoldable pub column : Event → ℕ
-column e = e .kind - 1
 
 -- the send that a receive without its data names, and a number for any other event
 unfoldable pub unloggedSend : Event → ℕ → ℕ

@@ -2,11 +2,12 @@
 
 ghost use mathlib.Core.Path.{_≡_};
 ghost use Prim.Native.Nat.{_+_, _*_, _<_, _≤_};
-ghost use lib.ListN.{length};
+ghost use lib.ListN.{length, getD};
 ghost use Rattle.log.specs.Forms.{receivesOnce};
 ghost use Rattle.log.specs.Limits.{maxWorkers, maxEvents, maxCheckpoints, maxRole};
-ghost use Rattle.log.specs.Model.{noEvent, workerCount, eventCount, eventOf, checkpointCount, checkpointOf, roleOf, isSend, isUnlogged, isReceive, received, column, unloggedSend};
-ghost use Rattle.log.specs.Layout.{formField, sizeField, lengthField, headerOf, field, entryOrZero, section, eventStart, eventSection, checkpointSection, eventRecord, checkpointRecord, workersOf};
+ghost use Rattle.log.specs.Kind.{column, recordTable};
+ghost use Rattle.log.specs.Model.{noEvent, workerCount, eventCount, eventOf, checkpointCount, checkpointOf, roleOf, isSend, isUnlogged, isReceive, received, unloggedSend};
+ghost use Rattle.log.specs.Layout.{formField, sizeField, lengthField, headerOf, field, entryOrZero, section, eventStart, eventSection, checkpointSection, kindByte, eventRecord, checkpointRecord, workersOf};
 ghost use Rattle.log.specs.Header.{formFault, limitFault, outside, sectionFault, entryFault, someEntry, entriesRefusal, layoutRefusal};
 
 // The forms of a log. In the second one a send is received at most once.
@@ -43,9 +44,18 @@ const EVENT_SIZE: usize = 12;
 
 const CHECKPOINT_SIZE: usize = 8;
 
+// The kind of an event: a case for each kind of the record table, a send, a receive without its data logged and one with it, and one for
+// all the rest.
+pub enum Kind {
+    Send,
+    Unlogged,
+    Logged,
+    Rest,
+}
+
 // An event: `send` is the index of the send that a receive names, and 0 for a send.
 pub struct Event {
-    pub kind: u8,
+    pub kind: Kind,
     pub peer: u8,
     pub spare: u32,
     pub send: u32,
@@ -219,10 +229,18 @@ pub fn layout_refusal(log: &[u8]) -> u32
 fn event_record(part: &[u8], k: usize) -> Event
     requires { ⌜ 12 * k + 12 ≤ length (now part) ⌝ }
     ensures answer { λ r. ⌜ r ≡ eventRecord (now (part .entry)) k ⌝ }
+    ensures kind { λ r. ⌜ r .kind ≡ getD recordTable (kindByte (now (part .entry)) k) Kind.Rest ⌝ }
 {
     let at = EVENT_SIZE * k;
+    let byte = bytes_le::read1(part, at);
+    let kind = match byte {
+        1 => Kind::Send,
+        2 => Kind::Unlogged,
+        3 => Kind::Logged,
+        _ => Kind::Rest,
+    };
     Event {
-        kind: bytes_le::read1(part, at),
+        kind,
         peer: bytes_le::read1(part, at + 1),
         spare: bytes_le::read2(part, at + 2),
         send: bytes_le::read4(part, at + 4),
@@ -385,7 +403,7 @@ fn no_event() -> Event
     ensures answer { λ r. ⌜ r ≡ noEvent ⌝ }
 {
     Event {
-        kind: 0,
+        kind: Kind::Rest,
         peer: 0,
         spare: 0,
         send: 0,
@@ -442,26 +460,41 @@ pub fn checkpoint_at(log: &[u8], w: usize, c: u32) -> Checkpoint
     checkpoint_in(log, start as usize, count as usize, (c - 1) as usize)
 }
 
-// The kinds of an event.
+// Whether an event is a send, a receive without its data, a receive.
 pub fn is_send(e: Event) -> bool
     ensures answer { λ r. ⌜ r ≡ isSend e ⌝ }
 {
-    e.kind == 1
+    let kind = e.kind;
+    match kind {
+        Kind::Send => true,
+        Kind::Unlogged => false,
+        Kind::Logged => false,
+        Kind::Rest => false,
+    }
 }
 
 pub fn is_unlogged(e: Event) -> bool
     ensures answer { λ r. ⌜ r ≡ isUnlogged e ⌝ }
 {
-    e.kind == 2
+    let kind = e.kind;
+    match kind {
+        Kind::Send => false,
+        Kind::Unlogged => true,
+        Kind::Logged => false,
+        Kind::Rest => false,
+    }
 }
 
 pub fn is_receive(e: Event) -> bool
     ensures answer { λ r. ⌜ r ≡ isReceive e ⌝ }
 {
-    if e.kind == 2 {
-        return true;
+    let kind = e.kind;
+    match kind {
+        Kind::Send => false,
+        Kind::Unlogged => true,
+        Kind::Logged => true,
+        Kind::Rest => false,
     }
-    e.kind == 3
 }
 
 // The messages that an event receives: 1 for a receive, else 0.
@@ -475,12 +508,16 @@ pub fn received(e: Event) -> u32
     0
 }
 
-// The column of the table of units for an event's kind: 0 for a send, 1 for a receive without its data, 2 for one with it.
-pub fn column(e: Event) -> u32
-    requires { ⌜ 0 < e .kind ⌝ }
-    ensures answer { λ r. ⌜ r ≡ column e ⌝ }
+// The column of the table of units for a kind. That of the rest is behind the last one.
+pub fn column(kind: Kind) -> u32
+    ensures answer { λ r. ⌜ r ≡ column kind ⌝ }
 {
-    e.kind as u32 - 1
+    match kind {
+        Kind::Send => 0,
+        Kind::Unlogged => 1,
+        Kind::Logged => 2,
+        Kind::Rest => 3,
+    }
 }
 
 // A number above every index.

@@ -11,16 +11,20 @@ use Rattle.log.specs.Limits.{maxLength}
 use Rattle.log.specs.Layout.{workersOf}
 use Rattle.log.specs.Model.{Workers}
 use Rattle.accept.specs.Refusal.{logRefusal, given}
-use Rattle.accept.proofs.Accepted.{accepted-layout}
+use Rattle.accept.proofs.Accepted.{accepted-layout, known-kind, well-formed}
 use Rattle.pack.specs.Packed.{packedLength}
 use Rattle.pack.specs.Calls.{roomRefusal, packRefusal, packAnswer}
 use Rattle.pack.specs.Archive.{Packable}
-use Rattle.pack.specs.Inner.Room.{Room}
+use Rattle.pack.specs.Inner.Room.{KnownKinds, Room}
 
 pub record PackLent (s : List ℕ) (lent others : ℕ) : Type 0 where
   pub accepted : logRefusal s ≡ 0
   pub room : Room s lent
   pub rest : others ≡ 0
+
+-- the events of an accepted log are of the three kinds
+pub accepted-kinds : (s : List ℕ) → logRefusal s ≡ 0 → KnownKinds (workersOf s)
+accepted-kinds s accepted = known-kind (workersOf s) (well-formed s accepted)
 
 room-ok : (size lent : ℕ) → roomRefusal size lent ≡ 0 → (size ≤ maxLength) × (size ≤ lent)
 unfolding roomRefusal
@@ -36,7 +40,7 @@ pack-ok {s} {lent} {others} found none =
     let fits = room-ok (packedLength (workersOf s)) lent (behind .0) in
     record {
       accepted = parts .0;
-      room = record { layout = accepted-layout s (parts .0); fits = fits .0; enough = fits .1 };
+      room = record { layout = accepted-layout s (parts .0); kinds = accepted-kinds s (parts .0); fits = fits .0; enough = fits .1 };
       rest = behind .1;
     }
 

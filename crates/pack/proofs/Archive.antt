@@ -25,6 +25,8 @@ use Rattle.accept.specs.Refusal.{contentRefusal, logRefusal}
 use Rattle.accept.proofs.Accepted.{accepted-layout}
 use Rattle.pack.specs.Packed.{eventAt, checkpointAt, sectionsOf, sectionsSize, startOf, numbersOf, packedLength, packed}
 use Rattle.pack.specs.Archive.{Packable, Agree, Archived}
+use Rattle.pack.specs.Inner.Room.{KnownKinds}
+use Rattle.pack.proofs.Allowed.{accepted-kinds}
 use Rattle.pack.proofs.Writing.{end-within, header-within}
 use Rattle.pack.proofs.Records.{events-long, checkpoints-long, events-bytes, checkpoints-bytes, sections-bytes, sections-long, section-bytes}
 use Rattle.pack.proofs.Header.{form-field, size-field, length-field, entry-field, packed-long, packed-bytes, events-at, checkpoints-at}
@@ -33,6 +35,9 @@ use Rattle.pack.proofs.Header.{form-field, size-field, length-field, en
 module _ (s : List ℕ) (p : Packable s) where
   layout : layoutRefusal s ≡ 0
   layout = accepted-layout s (p .accepted)
+
+  known : KnownKinds (workersOf s)
+  known = accepted-kinds s (p .accepted)
 
   abbrev workers : Workers
   workers = workersOf s
@@ -47,7 +52,7 @@ module _ (s : List ℕ) (p : Packable s) where
   inside w h = rw (size-read s) at h
 
   each : (k : ℕ) → k < n → length (sectionsOf workers k) ≡ sectionsSize workers k
-  each k h = sections-long s layout k h (p .bytes)
+  each k h = sections-long s layout k h (p .bytes) known
 
   -- each number of an entry has its place in 32 bits
   small : (w : ℕ) → w < n → (j : ℕ) → at (numbersOf workers w) j < 4294967296
@@ -106,7 +111,7 @@ module _ (s : List ℕ) (p : Packable s) where
     role-same = entry-field (logOf s) w 4 h (omega arith) (small w h 4) ∙ role-read s w (inside w h)
 
     both : sectionsOf workers w ≡ eventSection s w ++ checkpointSection s w
-    both = sections-bytes s layout w h (p .bytes)
+    both = sections-bytes s layout w h (p .bytes) known
 
     held-events : section file (field file w eventOffsetField) (eventSize * field file w eventCountField) ≡ eventSection s w
     held-events =
@@ -241,9 +246,9 @@ sections-of-log : (s t : List ℕ) → Packable s → Packable t → logOf s ≡
 sections-of-log s t p q e w h =
     let workers : workersOf s ≡ workersOf t = ap (λ (log : Log). log .workers) e in
     let h′ : w < workerCount (workersOf t) = rw workers at h in
-    let events = events-bytes s (layout s p) w h (p .bytes) in
+    let events = events-bytes s (layout s p) w h (p .bytes) (known s p) in
     let checkpoints = checkpoints-bytes s (layout s p) w h (p .bytes) in (
-      sym events ∙ ap (λ (ws : Workers). joinBelow (eventAt ws w) (eventCount ws w)) workers ∙ events-bytes t (layout t q) w h′ (q .bytes),
+      sym events ∙ ap (λ (ws : Workers). joinBelow (eventAt ws w) (eventCount ws w)) workers ∙ events-bytes t (layout t q) w h′ (q .bytes) (known t q),
       sym checkpoints ∙ ap (λ (ws : Workers). joinBelow (checkpointAt ws w) (checkpointCount ws w)) workers ∙ checkpoints-bytes t (layout t q) w h′ (q .bytes),
     )
 

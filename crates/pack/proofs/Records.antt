@@ -1,6 +1,6 @@
 -- The records of a log of bytes, written again, are the bytes of its sections. Assumes nothing.
 use mathlib.Core.Path.{_≡_, sym, _∙_}
-use mathlib.Core.Logic.{⊎-elim}
+use mathlib.Core.Logic.{⊎-elim, _≢_}
 use mathlib.Core.List.{List, _++_}
 use Prim.Native.Nat.{ℕ, zero, suc, _+_, _*_, _<_, _≤_}
 use native.Mathlib.Nat.{mul-zero, mul-suc}
@@ -12,11 +12,14 @@ use Rattle.ranges.specs.Fold.{joinBelow}
 use Rattle.ranges.proofs.Order.{lt-or-le}
 use Rattle.bytes_le.specs.Little.{le, bytesOf, Bytes}
 use Rattle.bytes_le.proofs.Little.{read-bytes}
+use Rattle.log.specs.declared.Kind.the-variants.{Rest}
 use Rattle.log.specs.Header.{layoutRefusal}
-use Rattle.log.specs.Layout.{sizeField, field, eventCountField, checkpointCountField, eventSize, checkpointSize, section, eventSection, checkpointSection, eventRecord, checkpointRecord, workersOf}
+use Rattle.log.specs.Layout.{sizeField, field, eventCountField, checkpointCountField, eventSize, checkpointSize, section, eventSection, checkpointSection, kindByte, eventRecord, checkpointRecord, workersOf}
 use Rattle.log.specs.Model.{workerCount, eventCount, checkpointCount}
 use Rattle.log.proofs.Readable.{readable}
 use Rattle.log.proofs.Read.{section-length, size-read, count-read, checkpoints-read, event-read, checkpoint-read}
+use Rattle.log.proofs.EventKinds.{kind-table}
+use Rattle.pack.specs.Inner.Room.{KnownKinds}
 use Rattle.pack.specs.Packed.{eventBytes, checkpointBytes, eventAt, checkpointAt, sectionsOf, sectionsSize}
 
 module _ (s : List ℕ) where
@@ -50,11 +53,11 @@ module _ (s : List ℕ) where
   unfolding section
   records-all f size n long all = records-join f size n all ∙ take-all (size * n) s (omega arith)
 
-  event-bytes : Bytes s → (k : ℕ) → eventSize * k + eventSize ≤ length s → eventBytes (eventRecord s k) ≡ section s (eventSize * k) eventSize
+  event-bytes : Bytes s → (k : ℕ) → eventSize * k + eventSize ≤ length s → eventRecord s k .kind ≢ Rest → eventBytes (eventRecord s k) ≡ section s (eventSize * k) eventSize
   unfolding eventBytes eventRecord
-  event-bytes all k h =
+  event-bytes all k h known =
       let at = eventSize * k in
-      rw (number all 1 at (omega arith), number all 1 (at + 1) (omega arith), number all 2 (at + 2) (omega arith), number all 4 (at + 4) (omega arith), number all 4 (at + 8) (omega arith))
+      rw (kind-table .back (kindByte s k) known, number all 1 at (omega arith), number all 1 (at + 1) (omega arith), number all 2 (at + 2) (omega arith), number all 4 (at + 4) (omega arith), number all 4 (at + 8) (omega arith))
       (rw (section-join at 1 1, section-join at 2 2, section-join at 4 4) (section-join at 8 4))
 
   checkpoint-bytes : Bytes s → (k : ℕ) → checkpointSize * k + checkpointSize ≤ length s → checkpointBytes (checkpointRecord s k) ≡ section s (checkpointSize * k) checkpointSize
@@ -77,16 +80,6 @@ module _ (s : List ℕ) (ok : layoutRefusal s ≡ 0) (w : ℕ) (h : w < workerCo
   checkpoints-long = rw (checkpoints-read s w inside) (section-length s _ _ (readable s ok .entry w inside .checkpoints-end))
 
   module _ (all : Bytes s) where
-    events-each : (k : ℕ) → k < eventCount (workersOf s) w → eventAt (workersOf s) w k ≡ section (eventSection s w) (eventSize * k) eventSize
-    unfolding eventAt eventSection
-    events-each k l =
-        let counted : k < field s w eventCountField = rw (count-read s w inside) at l in
-        let long = events-long in
-        rw (add-one, event-read s w k inside counted) (event-bytes (eventSection s w) (section-bytes s all _ _) k (omega arith))
-
-    pub events-bytes : joinBelow (eventAt (workersOf s) w) (eventCount (workersOf s) w) ≡ eventSection s w
-    events-bytes = records-all (eventSection s w) (eventAt (workersOf s) w) eventSize (eventCount (workersOf s) w) events-long events-each
-
     checkpoints-each : (k : ℕ) → k < checkpointCount (workersOf s) w → checkpointAt (workersOf s) w k ≡ section (checkpointSection s w) (checkpointSize * k) checkpointSize
     unfolding checkpointAt checkpointSection
     checkpoints-each k l =
@@ -97,10 +90,23 @@ module _ (s : List ℕ) (ok : layoutRefusal s ≡ 0) (w : ℕ) (h : w < workerCo
     pub checkpoints-bytes : joinBelow (checkpointAt (workersOf s) w) (checkpointCount (workersOf s) w) ≡ checkpointSection s w
     checkpoints-bytes = records-all (checkpointSection s w) (checkpointAt (workersOf s) w) checkpointSize (checkpointCount (workersOf s) w) checkpoints-long checkpoints-each
 
-    pub sections-bytes : sectionsOf (workersOf s) w ≡ eventSection s w ++ checkpointSection s w
-    unfolding sectionsOf
-    sections-bytes = rw (events-bytes, checkpoints-bytes)
+    -- the events too, where all are of the three kinds
+    module _ (known : KnownKinds (workersOf s)) where
+      events-each : (k : ℕ) → k < eventCount (workersOf s) w → eventAt (workersOf s) w k ≡ section (eventSection s w) (eventSize * k) eventSize
+      unfolding eventAt eventSection
+      events-each k l =
+          let counted : k < field s w eventCountField = rw (count-read s w inside) at l in
+          let long = events-long in
+          let kind = known w (suc k) (omega arith) l in
+          rw (add-one, event-read s w k inside counted) (event-bytes (eventSection s w) (section-bytes s all _ _) k (omega arith) (rw (event-read s w k inside counted) at kind))
 
-    pub sections-long : length (sectionsOf (workersOf s) w) ≡ sectionsSize (workersOf s) w
-    unfolding sectionsSize
-    sections-long = rw (sections-bytes, length-append (eventSection s w) (checkpointSection s w), events-long, checkpoints-long)
+      pub events-bytes : joinBelow (eventAt (workersOf s) w) (eventCount (workersOf s) w) ≡ eventSection s w
+      events-bytes = records-all (eventSection s w) (eventAt (workersOf s) w) eventSize (eventCount (workersOf s) w) events-long events-each
+
+      pub sections-bytes : sectionsOf (workersOf s) w ≡ eventSection s w ++ checkpointSection s w
+      unfolding sectionsOf
+      sections-bytes = rw (events-bytes, checkpoints-bytes)
+
+      pub sections-long : length (sectionsOf (workersOf s) w) ≡ sectionsSize (workersOf s) w
+      unfolding sectionsSize
+      sections-long = rw (sections-bytes, length-append (eventSection s w) (checkpointSection s w), events-long, checkpoints-long)

@@ -21,7 +21,7 @@ use Rattle.log.specs.Limits.{maxLength, maxWorkers, maxEvents, maxCheckpoints}
 use Rattle.log.specs.Layout.{headerOf, eventSize, checkpointSize, eventSection, checkpointSection, workersOf}
 use Rattle.log.proofs.Read.{workers-few, count-field, checkpoints-field}
 use Rattle.pack.specs.Packed.{sectionsOf, sectionsSize, startOf, entryOf, packedLength, fieldsOf, packed}
-use Rattle.pack.specs.Inner.Room.{Room}
+use Rattle.pack.specs.Inner.Room.{KnownKinds, Room}
 use Rattle.pack.proofs.Records.{events-long, checkpoints-long, sections-bytes, sections-long}
 use Rattle.pack.proofs.Header.{fields-long, header-long}
 
@@ -99,10 +99,10 @@ module _ (s : List ℕ) (ok : layoutRefusal s ≡ 0) where
       record { fits = omega arith }
 
   -- the sections of worker w begin where those written before them end
-  pub sections-before : Bytes s → (w : ℕ) → w ≤ workerCount (workersOf s)
+  pub sections-before : Bytes s → KnownKinds (workersOf s) → (w : ℕ) → w ≤ workerCount (workersOf s)
       → startOf (workersOf s) w ≡ headerOf (workerCount (workersOf s)) + length (joinBelow (sectionsOf (workersOf s)) w)
   unfolding startOf
-  sections-before all w h = rw (length-join (sectionsOf (workersOf s)) (sectionsSize (workersOf s)) w (λ k l. sections-long s ok k (omega arith) all))
+  sections-before all known w h = rw (length-join (sectionsOf (workersOf s)) (sectionsSize (workersOf s)) w (λ k l. sections-long s ok k (omega arith) all known))
 
   module _ (w : ℕ) (h : w < workerCount (workersOf s)) where
     pub parts-long : length (eventSection s w) + length (checkpointSection s w) ≡ sectionsSize (workersOf s) w
@@ -113,14 +113,14 @@ module _ (s : List ℕ) (ok : layoutRefusal s ≡ 0) where
     parts-end = let long = parts-long in let next = start-next (workersOf s) w in omega arith
 
     -- the events and then the checkpoints right behind them
-    pub sections-copied : Bytes s → (at : ℕ) (out : List ℕ) → at ≤ length out
+    pub sections-copied : Bytes s → KnownKinds (workersOf s) → (at : ℕ) (out : List ℕ) → at ≤ length out
         → overwrite (at + length (eventSection s w)) (checkpointSection s w) (overwrite at (eventSection s w) out) ≡ overwrite at (sectionsOf (workersOf s) w) out
-    sections-copied all at out fits = rw (sections-bytes s ok w h all) (overwrite-more at out (eventSection s w) (checkpointSection s w) fits)
+    sections-copied all known at out fits = rw (sections-bytes s ok w h all known) (overwrite-more at out (eventSection s w) (checkpointSection s w) fits)
 
 -- ---- a log whose packed log has room
 -- as much as in another number of bytes that is the same
 pub room-same : {s : List ℕ} {lent now : ℕ} → Room s lent → now ≡ lent → Room s now
-room-same room same = record { layout = room .layout; fits = room .fits; enough = rw same (room .enough) }
+room-same room same = record { layout = room .layout; kinds = room .kinds; fits = room .fits; enough = rw same (room .enough) }
 
 -- the sections of worker w, which begin at `start`, end within the longest log and within the bytes lent
 pub parts-room : {s : List ℕ} {lent w start : ℕ} → Room s lent → w < workerCount (workersOf s) → start ≡ startOf (workersOf s) w

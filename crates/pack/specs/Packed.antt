@@ -7,12 +7,13 @@ use Rattle.lent.specs.Lent.{at}
 use Rattle.bytes_le.specs.Little.{bytesOf}
 use Rattle.log.specs.declared.Event.{Event}
 use Rattle.log.specs.declared.Checkpoint.{Checkpoint}
+use Rattle.log.specs.Kind.{kindNumber}
 use Rattle.log.specs.Model.{Log, Workers, workerCount, roleOf, eventCount, eventOf, checkpointCount, checkpointOf}
 use Rattle.log.specs.Layout.{headerOf, eventSize, checkpointSize}
 
 -- "kind (1 byte), peer (1 byte), spare (2 bytes, zero), peer event (4 bytes), stamp (4 bytes)"
 unfoldable pub eventBytes : Event → List ℕ
-eventBytes e = bytesOf 1 (e .kind) ++ bytesOf 1 (e .peer) ++ bytesOf 2 (e .spare) ++ bytesOf 4 (e .send) ++ bytesOf 4 (e .stamp)
+eventBytes e = bytesOf 1 (kindNumber (e .kind)) ++ bytesOf 1 (e .peer) ++ bytesOf 2 (e .spare) ++ bytesOf 4 (e .send) ++ bytesOf 4 (e .stamp)
 
 -- "event index (4), checkpoint identifier (4)"
 unfoldable pub checkpointBytes : Checkpoint → List ℕ

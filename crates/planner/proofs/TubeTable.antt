@@ -5,6 +5,7 @@ use mathlib.Core.List.{[], _∷_}
 use lib.ListN.{set}
 use Rattle.ranges.specs.Fold.{anyBelow, maxBelow, sumBelow, firstBelow, lastBelow, tabulate, sweep}
 use Rattle.bytes_le.specs.Little.{le}
+use Rattle.log.specs.declared.Kind.the-variants.{Send, Unlogged, Logged}
 use Rattle.log.specs.Model.{Workers, workerCount, worker, roleOf, eventCount, eventOf, checkpointCount, checkpointOf, isSend, isUnlogged, isLogged, isReceive}
 use Rattle.log.specs.Layout.{field, section, eventSection, checkpointSection, eventRecord, checkpointRecord, workerOf, workersOf}
 use Rattle.accept.specs.Tube.{tube, tubeLog}
@@ -26,10 +27,10 @@ logged =
     (record {
       role = 1;
       events =
-          record { kind = 1; peer = 2; spare = 0; send = 0; stamp = 1 } ∷
-          record { kind = 3; peer = 2; spare = 0; send = 2; stamp = 3 } ∷
-          record { kind = 1; peer = 0; spare = 0; send = 0; stamp = 4 } ∷
-          record { kind = 2; peer = 0; spare = 0; send = 3; stamp = 7 } ∷ [];
+          record { kind = Send; peer = 2; spare = 0; send = 0; stamp = 1 } ∷
+          record { kind = Logged; peer = 2; spare = 0; send = 2; stamp = 3 } ∷
+          record { kind = Send; peer = 0; spare = 0; send = 0; stamp = 4 } ∷
+          record { kind = Unlogged; peer = 0; spare = 0; send = 3; stamp = 7 } ∷ [];
       checkpoints = record { index = 1; identifier = 1 } ∷ [];
     })
 

@@ -2,6 +2,7 @@
 use mathlib.Core.Path.{_≡_}
 use Prim.Native.Nat.{ℕ, _-_, _*_, _≤_}
 use native.Mathlib.Omega.{arith}
+use Rattle.log.specs.declared.Kind.the-variants.{Send, Unlogged, Logged}
 use Rattle.log.specs.Limits.{maxEvents}
 use Rattle.cost.specs.Cost.{builtIn}
 use Rattle.cost.specs.Inner.Counted.{countedUnits}
@@ -11,15 +12,15 @@ use Rattle.cost.proofs.counted_units.Statement.{statement}
 use Rattle.cost.proofs.counted_units.Tie as tie
 
 -- each product is small
-sends : (c : tie.Start) (units : ℕ) → units ≡ builtIn (c .args .role) 1 → (c .args .events - c .args .receives) * units ≤ maxEvents * 9
-sends c units q = product-few (c .args .events - c .args .receives) _ 1 units (omega (arith, c .pre .1)) q
+sends : (c : tie.Start) (units : ℕ) → units ≡ builtIn (c .args .role) Send → (c .args .events - c .args .receives) * units ≤ maxEvents * 9
+sends c units q = product-few (c .args .events - c .args .receives) _ Send units (omega (arith, c .pre .1)) q
 
-unlogged : (c : tie.Start) (units : ℕ) → units ≡ builtIn (c .args .role) 2
+unlogged : (c : tie.Start) (units : ℕ) → units ≡ builtIn (c .args .role) Unlogged
     → (c .args .receives - (c .args .columns - c .args .receives)) * units ≤ maxEvents * 9
-unlogged c units q = product-few (c .args .receives - (c .args .columns - c .args .receives)) _ 2 units (omega (arith, c .pre .1, c .pre .2)) q
+unlogged c units q = product-few (c .args .receives - (c .args .columns - c .args .receives)) _ Unlogged units (omega (arith, c .pre .1, c .pre .2)) q
 
-logged : (c : tie.Start) (units : ℕ) → units ≡ builtIn (c .args .role) 3 → (c .args .columns - c .args .receives) * units ≤ maxEvents * 9
-logged c units q = product-few (c .args .columns - c .args .receives) _ 3 units (omega (arith, c .pre .1, c .pre .2, c .pre .4)) q
+logged : (c : tie.Start) (units : ℕ) → units ≡ builtIn (c .args .role) Logged → (c .args .columns - c .args .receives) * units ≤ maxEvents * 9
+logged c units q = product-few (c .args .columns - c .args .receives) _ Logged units (omega (arith, c .pre .1, c .pre .2, c .pre .4)) q
 
 mul-result : tie.Need-mul-result
 mul-result c = omega (arith, sends (c .before) _ (c .units-for .ensures))

@@ -7,11 +7,12 @@ use borrow.Author.Needs.{needs}
 use Rattle.log.specs.declared.Event.{Event}
 use Rattle.log.specs.Limits.{maxEvents}
 use Rattle.log.specs.Layout.{workersOf}
-use Rattle.log.specs.Model.{eventCount, eventOf, received, column}
+use Rattle.log.specs.Kind.{column}
+use Rattle.log.specs.Model.{eventCount, eventOf, received}
 use Rattle.accept.proofs.Accepted.{accepted-layout, well-formed}
 use Rattle.cost.specs.Cost.{workerUnits, builtIn}
 use Rattle.cost.specs.Words.{startsIn}
-use Rattle.cost.proofs.Held.{cuts-at, starts-in-at, kind-some, HeldWorker, held-worker}
+use Rattle.cost.proofs.Held.{cuts-at, starts-in-at, HeldWorker, held-worker}
 use Rattle.cost.proofs.Counted.{Counted, counted-none, counted-few, counted-units, counted-more}
 use Rattle.cost.proofs.worker_units.Statement.{statement}
 use Rattle.cost.proofs.worker_units.Tie as tie
@@ -54,7 +55,7 @@ next : (c : tie.In-loop Inv-loop μ-loop) (e : Event)
     → e ≡ eventOf (workersOf (c .before .before .before .before .before .before .args .log .now)) (c .before .before .before .before .before .before .args .w) (c .before .loop .k + 1)
     → Counted builtIn (workersOf (c .before .before .before .before .before .before .args .log .now))
     (startsIn (workersOf (c .before .before .before .before .before .before .args .log .now)) (c .before .before .before .before .before .before .args .words .now))
-    (c .before .before .before .before .before .before .args .w) (c .before .loop .k + 1) (c .before .loop .receives + received e) (c .before .loop .columns + column e)
+    (c .before .before .before .before .before .before .args .w) (c .before .loop .k + 1) (c .before .loop .receives + received e) (c .before .loop .columns + column (e .kind))
 next c e q =
     counted-more _ _ _ _ _ _ _ (c .before .loop .inv .1) e q (well-formed _ (c .before .before .before .before .before .before .pre .0 .0)) (inside c .1)
 
@@ -68,11 +69,6 @@ add-receives : tie.Need-add-receives Inv-loop μ-loop
 add-receives c =
     let few = counted-few _ _ _ _ _ _ _ (c .before .before .before .loop .inv .1) in
     omega (arith, few .0, inside (c .before .before) .0, c .received .ensures .1)
-
-column-requires : tie.Need-column-requires Inv-loop μ-loop
-column-requires c κs =
-    let start = c .before .before .before .before .before .before .before .before in
-    rw (c .before .event-at .ensures) (kind-some _ (well-formed _ (start .pre .0 .0)) (start .args .w) (c .before .before .before .loop .k + 1) (omega arith) (omega (arith, inside (c .before .before) .1)) .0)
 
 add-columns : tie.Need-add-columns Inv-loop μ-loop
 add-columns c =
@@ -135,7 +131,7 @@ worker-units-spec =
     event-at-requires
     (λ c κs. search needs)
     add-receives
-    column-requires
+    (λ c κs. search needs)
     add-columns
     add-k
     loop-less

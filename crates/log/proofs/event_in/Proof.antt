@@ -9,7 +9,7 @@ event-record-requires : tie.Need-event-record-requires
 event-record-requires c κs = rw (c .section-part .ensures, section-length _ _ _ (c .before .before .pre .0)) (omega arith)
 
 returns : tie.Need-returns
-returns c = rw (c .before .section-part .ensures) at (c .event-record .ensures)
+returns c = rw (c .before .section-part .ensures) at (c .event-record .ensures .0)
 
 pub event-in-spec : {M : Type 1} → statement M
 event-in-spec = tie.close (tie.spec (λ c κs. search needs) event-record-requires returns)

@@ -1,12 +1,24 @@
 -- `log::is_unlogged` meets its contract. Assumes nothing.
-use mathlib.Core.Path.{refl}
+use borrow.Author.Needs.{needs}
 use Rattle.log.specs.Model.{isUnlogged}
 use Rattle.log.proofs.is_unlogged.Statement.{statement}
 use Rattle.log.proofs.is_unlogged.Tie as tie
 
 returns : tie.Need-returns
 unfolding isUnlogged
-returns c = refl
+returns c = rw (c .enum-told .given .1)
+
+returns-2 : tie.Need-returns-2
+unfolding isUnlogged
+returns-2 c = rw (c .enum-told2 .given .1)
+
+returns-3 : tie.Need-returns-3
+unfolding isUnlogged
+returns-3 c = rw (c .enum-told3 .given .1)
+
+returns-4 : tie.Need-returns-4
+unfolding isUnlogged
+returns-4 c = rw (c .enum-told4 .given .1)
 
 pub is-unlogged-spec : {M : Type 1} → statement M
-is-unlogged-spec = tie.close (tie.spec returns)
+is-unlogged-spec = tie.close (tie.spec (λ c. search needs) (λ c. search needs) (λ c. search needs) (λ c. search needs) returns returns-2 returns-3 returns-4)

@@ -41,7 +41,7 @@ returns c =
       rw (read .before .events-part .ensures, read .checkpoints-part .ensures, start .pre .2) (parts-end (start .args .log .now) (start .pre .0 .layout) (start .args .w) (start .pre .1)),
       c .before .before .copy-bytes2 .ensures
           ∙ rw (copied .copy-bytes .ensures, read .before .events-part .ensures, read .checkpoints-part .ensures)
-          (sections-copied (start .args .log .now) (start .pre .0 .layout) (start .args .w) (start .pre .1) (λ i. omega (arith, read .before .before .before .shared-slice-known .given i)) (start .args .at) (start .args .out .now) (omega (arith, room .1))),
+          (sections-copied (start .args .log .now) (start .pre .0 .layout) (start .args .w) (start .pre .1) (λ i. omega (arith, read .before .before .before .shared-slice-known .given i)) (start .pre .0 .kinds) (start .args .at) (start .args .out .now) (omega (arith, room .1))),
     )
 
 pub copy-sections-spec : {M : Type 1} → statement M

@@ -50,7 +50,7 @@ loop-again c =
     let all : Bytes (start .args .log .now) = λ i. omega (arith, turn .before .before .before .before .shared-slice-known .given i) in (
       c .before .before .copy-sections .ensures .0,
       written-more (turn .loop .inv .1) (c .before .before .before .before .loop-test .taken) (omega (arith, start .pre .enough))
-          (turn .loop .inv .0 ∙ sections-before _ (start .pre .layout) all (turn .loop .w) (omega (arith, turn .before .before .worker-count .ensures .0, turn .loop .inv .1 .few)))
+          (turn .loop .inv .0 ∙ sections-before _ (start .pre .layout) all (start .pre .kinds) (turn .loop .w) (omega (arith, turn .before .before .worker-count .ensures .0, turn .loop .inv .1 .few)))
           (c .before .before .copy-sections .ensures .1) (c .before .out .given),
     )
 
