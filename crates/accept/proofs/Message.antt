@@ -1,76 +1,81 @@
--- What an event shows beside the one before it, and what a receive shows beside its send, are together the tests 7 to 10. Assumes nothing.
+-- What an event shows beside the one before it, and what one that names another shows beside that, are together the tests 7 to 10. Assumes nothing.
 use mathlib.Core.Path.{_≡_, refl, sym, _∙_}
-use mathlib.Core.Bool.{Bool, true, false, not, cond, _&&_, _||_, false≢true}
+use mathlib.Core.Bool.{Bool, true, false, not, cond, _||_, false≢true}
 use mathlib.Core.Logic.{⊎-elim}
 use Prim.Native.Nat.{ℕ, _<_}
-use borrow.Author.Tests.{leb-false, lt-ltb, le-ltb, not-false}
+use borrow.Author.Tests.{leb-false, lt-ltb, le-ltb, not-false, not-true}
 use lib.Dec.{eqb, leb, ltb}
 use Rattle.ranges.proofs.Order.{lt-or-le}
 use Rattle.ranges.proofs.Bools.{or-false-left, or-false-right}
 use Rattle.log.specs.declared.Event.{Event}
-use Rattle.log.specs.Model.{Workers, workerCount, eventCount, eventOf, isSend, isReceive, received}
+use Rattle.log.specs.Model.{Workers, workerCount, eventCount, eventOf, isSend, isReceive}
 use Rattle.log.proofs.Read.{event-past}
-use Rattle.log.proofs.EventKinds.{no-send, not-send}
+use Rattle.log.proofs.EventKinds.{no-send, not-send, not-receive}
 use Rattle.accept.specs.Records.{kindFault, peerFault, sendFault, fieldFault, stampFault, sendOf, sourceFault, orderFault, anyFault}
-use Rattle.accept.specs.Inner.Message.{names, ownFault, receiveFault}
+use Rattle.accept.specs.Inner.Message.{isNaming, ownFault, namingFault}
 
 module _ (log : Workers) (w k : ℕ) (e : Event) where
   -- the parts of an event's own test, where it passes
   record Passed : Type 0 where
     pub spare : eqb (e .spare) 0 ≡ true
-    pub kind : kindFault e ≡ false
     pub peer : peerFault log w e ≡ false
     pub stamp : stampFault log w k e ≡ false
-    pub named : eqb (names e) (received e) ≡ true
+    pub known : (isNaming e || isSend e) ≡ true
 
   passed : ownFault log w (eventOf log w k .stamp) e ≡ false → Passed
   unfolding ownFault stampFault
   passed f =
       let A = not (eqb (e .spare) 0) in
-      let B = kindFault e in
-      let C = peerFault log w e in
-      let D = leb (e .stamp) (eventOf log w k .stamp) in
-      let E = not (eqb (names e) (received e)) in
-      let four = or-false-left (A || B || C || D) E f in
-      let three = or-false-left (A || B || C) D four in
+      let B = peerFault log w e in
+      let C = leb (e .stamp) (eventOf log w k .stamp) in
+      let D = not (isNaming e || isSend e) in
+      let three = or-false-left (A || B || C) D f in
       let two = or-false-left (A || B) C three in
       record {
         spare = not-false _ (or-false-left A B two);
-        kind = or-false-right A B two;
-        peer = or-false-right (A || B) C three;
-        stamp = or-false-right (A || B || C) D four;
-        named = not-false _ (or-false-right (A || B || C || D) E f);
+        peer = or-false-right A B two;
+        stamp = or-false-right (A || B) C three;
+        known = not-false _ (or-false-right (A || B || C) D f);
       }
 
-  -- of a known kind, an event fails the last part of 7 where it names an event and is no receive, or is one and names none, or where a
-  -- receive names an event past its peer's last one
-  send-parts : kindFault e ≡ false → sendFault log e ≡ (not (eqb (names e) (received e)) || (isReceive e && ltb (eventCount log (e .peer)) (e .send)))
-  unfolding sendFault kindFault names received
-  send-parts = go (isSend e) refl (isReceive e) refl (eqb (e .send) 0)
-    where
-      go : (a : Bool) → isSend e ≡ a → (b : Bool) → isReceive e ≡ b → (c : Bool) → not (a || b) ≡ false
-          → cond a (not c) (c || ltb (eventCount log (e .peer)) (e .send)) ≡ (not (eqb (cond c 0 1) (cond b 1 0)) || (b && ltb (eventCount log (e .peer)) (e .send)))
-      go true p true q c kind = absurd (false≢true (sym (not-send e q) ∙ p))
-      go true p false q true kind = refl
-      go true p false q false kind = refl
-      go false p true q true kind = refl
-      go false p true q false kind = refl
-      go false p false q c kind = absurd (false≢true (sym kind))
-
-  -- an event that is no receive and whose own tests pass has no fault
-  pub passes : ownFault log w (eventOf log w k .stamp) e ≡ false → isReceive e ≡ false → anyFault log w k e ≡ false
-  unfolding anyFault fieldFault sourceFault orderFault
-  passes f other = let p = passed f in rw (p .spare, p .kind, p .peer, p .stamp, send-parts (p .kind), p .named, other)
-
-  -- a receive whose own tests pass has one exactly beside its send
-  pub receive-decides : ownFault log w (eventOf log w k .stamp) e ≡ false → isReceive e ≡ true → receiveFault log w e ≡ anyFault log w k e
-  unfolding receiveFault anyFault fieldFault sourceFault orderFault sendOf
-  receive-decides f receive =
+  -- an event that names none and whose own tests pass has no fault
+  pub passes : ownFault log w (eventOf log w k .stamp) e ≡ false → isNaming e ≡ false → anyFault log w k e ≡ false
+  unfolding anyFault fieldFault kindFault sendFault sourceFault orderFault isNaming
+  passes f other =
       let p = passed f in
-      ⊎-elim
-      (λ past. rw (p .spare, p .kind, p .peer, p .stamp, send-parts (p .kind), p .named, receive, lt-ltb (eventCount log (e .peer)) (e .send) past, event-past log (e .peer) (e .send) past, no-send))
-      (λ within. rw (p .spare, p .kind, p .peer, p .stamp, send-parts (p .kind), p .named, receive, le-ltb (eventCount log (e .peer)) (e .send) within))
-      (lt-or-le (eventCount log (e .peer)) (e .send))
+      let send : isSend e ≡ true = rw other at (p .known) in
+      rw (p .spare, send, p .peer, not-false (eqb (e .send) 0) other, p .stamp, not-receive e send)
+
+  -- an event that names another and whose own tests pass has one exactly where it is no receive, or beside the event that it names
+  pub naming-decides : ownFault log w (eventOf log w k .stamp) e ≡ false → isNaming e ≡ true → namingFault log w e ≡ anyFault log w k e
+  unfolding namingFault anyFault fieldFault kindFault sendFault sourceFault orderFault sendOf isNaming
+  naming-decides f naming = go (isReceive e) refl (isSend e) refl
+    where
+      p : Passed
+      p = passed f
+
+      some : eqb (e .send) 0 ≡ false
+      some = not-true (eqb (e .send) 0) naming
+
+      go : (r : Bool) → isReceive e ≡ r → (s : Bool) → isSend e ≡ s → namingFault log w e ≡ anyFault log w k e
+      go true receive s q =
+          ⊎-elim
+          (λ past. rw (p .spare, receive, not-send e receive, p .peer, some, p .stamp, lt-ltb (eventCount log (e .peer)) (e .send) past, event-past log (e .peer) (e .send) past, no-send))
+          (λ within. rw (p .spare, receive, not-send e receive, p .peer, some, p .stamp, le-ltb (eventCount log (e .peer)) (e .send) within))
+          (lt-or-le (eventCount log (e .peer)) (e .send))
+      go false other true send = rw (p .spare, other, send, p .peer, some)
+      go false other false rest = rw (p .spare, other, rest)
+
+  -- a send, or an event that names another
+  send-known : sendFault log e ≡ false → (isNaming e || isSend e) ≡ true
+  unfolding sendFault isNaming
+  send-known = go (isSend e) (eqb (e .send) 0)
+    where
+      go : (s z : Bool) → cond s (not z) (z || ltb (eventCount log (e .peer)) (e .send)) ≡ false → (not z || s) ≡ true
+      go true true q = refl
+      go true false q = refl
+      go false true q = absurd (false≢true (sym q))
+      go false false q = refl
 
   own-passes : anyFault log w k e ≡ false → ownFault log w (eventOf log w k .stamp) e ≡ false
   unfolding anyFault fieldFault ownFault stampFault
@@ -80,13 +85,10 @@ module _ (log : Workers) (w k : ℕ) (e : Event) where
       let C = peerFault log w e in
       let D = sendFault log e in
       let S = leb (e .stamp) (eventOf log w k .stamp) in
-      let N = not (eqb (names e) (received e)) in
       let two = or-false-left (A || B || C || D || S) (sourceFault log w e) (or-false-left (A || B || C || D || S || sourceFault log w e) (orderFault log e) f) in
       let seven = or-false-left (A || B || C || D) S two in
       let front = or-false-left (A || B || C) D seven in
-      let parts = send-parts (or-false-right A B (or-false-left (A || B) C front)) in
-      let named = or-false-left N (isReceive e && ltb (eventCount log (e .peer)) (e .send)) (sym parts ∙ or-false-right (A || B || C) D seven) in
-      rw (front, or-false-right (A || B || C || D) S two, named)
+      rw (or-false-left A B (or-false-left (A || B) C front), or-false-right (A || B) C front, or-false-right (A || B || C || D) S two, send-known (or-false-right (A || B || C) D seven))
 
   -- a fault of its own is one of these
   pub own-decides : ownFault log w (eventOf log w k .stamp) e ≡ true → anyFault log w k e ≡ true

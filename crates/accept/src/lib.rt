@@ -10,15 +10,15 @@ ghost use Rattle.ranges.specs.Fold.{anyBelow, maxBelow};
 ghost use Rattle.lent.specs.Lent.{at};
 ghost use Rattle.log.specs.Header.{layoutRefusal};
 ghost use Rattle.log.specs.Limits.{maxEvents};
-ghost use Rattle.log.specs.Model.{workerCount, eventCount, eventOf, isReceive};
+ghost use Rattle.log.specs.Model.{workerCount, eventCount, eventOf};
 ghost use Rattle.log.specs.Layout.{workersOf, logOf};
 ghost use Rattle.accept.specs.Records.{kindFault, peerFault, sendFault, fieldFault, stampFault, sendOf, sourceFault, orderFault};
 ghost use Rattle.accept.specs.Records.{eventFault, checkpointFault, recordFault, recordCount, workerFault, someRecord};
-ghost use Rattle.accept.specs.Inner.Message.{names, ownFault, receiveFault};
-ghost use Rattle.accept.specs.Inner.Blocks.{blockSize, faultWithin, someWithin, listedFault, IsReceived, Lists};
+ghost use Rattle.accept.specs.Inner.Message.{names, ownFault, namingFault};
+ghost use Rattle.accept.specs.Inner.Blocks.{blockSize, faultWithin, someWithin, listedFault, IsListed, Lists};
 ghost use Rattle.accept.specs.Refusal.{eventsRefusal, recordsRefusal, contentRefusal, logRefusal};
 
-// Whether the kind is none of 1, 2 and 3.
+// Whether the kind is none of the three.
 fn kind_fault(e: Event) -> bool
     ensures answer { λ r. ⌜ r ≡ kindFault e ⌝ }
 {
@@ -119,6 +119,7 @@ fn order_fault(log: &[u8], e: Event) -> bool
 // 1 for an event that names another, else 0.
 fn names(e: Event) -> u32
     ensures answer { λ r. ⌜ r ≡ names e ⌝ }
+    ensures few { λ r. ⌜ r ≤ 1 ⌝ }
 {
     if e.send == 0 {
         return 0;
@@ -126,15 +127,14 @@ fn names(e: Event) -> u32
     1
 }
 
-// Whether an event of worker w fails a test that looks at no event but the one before it, whose stamp is `before`.
+// Whether an event of worker w fails a test that looks at no event but the one before it, whose stamp is `before`. Of the
+// kind it asks only whether an event that names none is a send, and leaves the rest to `naming_fault`. So each part of the compiled pass has one
+// comparison with the event's kind byte.
 fn own_fault(log: &[u8], w: usize, before: u32, e: Event) -> bool
     requires { ⌜ layoutRefusal (now log) ≡ 0 ⌝ }
     ensures answer { λ r. ⌜ r ≡ ownFault (workersOf (now (log .entry))) w before e ⌝ }
 {
     if e.spare != 0 {
-        return true;
-    }
-    if kind_fault(e) {
         return true;
     }
     if peer_fault(log, w, e) {
@@ -143,14 +143,21 @@ fn own_fault(log: &[u8], w: usize, before: u32, e: Event) -> bool
     if e.stamp <= before {
         return true;
     }
-    names(e) != log::received(e)
+    if e.send != 0 {
+        return false;
+    }
+    !log::is_send(e)
 }
 
-// Whether a receive of worker w names an event that is no send, none to w, or none before it: tests 9 and 10.
-fn receive_fault(log: &[u8], w: usize, e: Event) -> bool
-    requires { ⌜ (layoutRefusal (now log) ≡ 0) × (isReceive e ≡ true) × (e .peer < workerCount (workersOf (now log))) ⌝ }
-    ensures answer { λ r. ⌜ r ≡ receiveFault (workersOf (now (log .entry))) w e ⌝ }
+// Whether an event of worker w that names another is no receive, or names one that is no send, none to w, or none before it: what
+// `own_fault` leaves of test 7, and tests 9 and 10.
+fn naming_fault(log: &[u8], w: usize, e: Event) -> bool
+    requires { ⌜ (layoutRefusal (now log) ≡ 0) × (e .peer < workerCount (workersOf (now log))) ⌝ }
+    ensures answer { λ r. ⌜ r ≡ namingFault (workersOf (now (log .entry))) w e ⌝ }
 {
+    if !log::is_receive(e) {
+        return true;
+    }
     let send = log::worker_event(log, e.peer as usize, e.send);
     if !log::is_send(send) {
         return true;
@@ -177,15 +184,15 @@ fn block_end(first: u32, count: u32) -> u32
     end
 }
 
-// Whether an event of a block fails a test of its own; else how many of its events are receives.
+// Whether an event of a block fails a test of its own; else how many of its events name another.
 struct Listed {
     fault: bool,
     count: usize,
 }
 
-// Lists the receives among the events after the first `first` and up to `end` of worker w. Kinds are random in a run, so there is no branch
-// on the kind: each event is written where the next receive has its place.
-fn list_receives(
+// Lists those of the events after the first `first` and up to `end` of worker w that name another: the receives, where there is no fault.
+// Kinds are random in a run, so there is no branch on the kind: each event is written where the next one that is listed has its place.
+fn list_naming(
     log: &[u8],
     w: usize,
     first: u32,
@@ -207,7 +214,7 @@ fn list_receives(
             return Listed { fault: true, count };
         }
         list[count] = k;
-        count += log::received(e) as usize;
+        count += names(e) as usize;
         before = e.stamp;
         k += 1;
     }
@@ -217,9 +224,9 @@ fn list_receives(
     }
 }
 
-// Whether one of the first `count` listed receives of worker w fails test 9 or 10.
-fn receives_fault(log: &[u8], w: usize, list: &[u32; BLOCK as usize], count: usize) -> bool
-    requires { ⌜ (layoutRefusal (now log) ≡ 0) × (count ≤ blockSize) × ((j : ℕ) → j < count → IsReceived (workersOf (now log)) w (at (now list) j)) ⌝ }
+// Whether one of the first `count` listed events of worker w is no receive, or fails test 9 or 10.
+fn listed_fault(log: &[u8], w: usize, list: &[u32; BLOCK as usize], count: usize) -> bool
+    requires { ⌜ (layoutRefusal (now log) ≡ 0) × (count ≤ blockSize) × ((j : ℕ) → j < count → IsListed (workersOf (now log)) w (at (now list) j)) ⌝ }
     ensures answer { λ r. ⌜ r ≡ anyBelow (listedFault (workersOf (now (log .entry))) w (now (list .entry))) count ⌝ }
 {
     let start = log::event_start(log, w);
@@ -227,7 +234,7 @@ fn receives_fault(log: &[u8], w: usize, list: &[u32; BLOCK as usize], count: usi
     let mut j: usize = 0;
     while j < count {
         let e = log::event_in(log, start, events, list[j] as usize);
-        if receive_fault(log, w, e) {
+        if naming_fault(log, w, e) {
             return true;
         }
         j += 1;
@@ -245,11 +252,11 @@ fn events_fault(log: &[u8], w: usize, first: u32) -> bool
         return false;
     }
     let mut list = [0u32; BLOCK as usize];
-    let listed = list_receives(log, w, first, block_end(first, count), &mut list);
+    let listed = list_naming(log, w, first, block_end(first, count), &mut list);
     if listed.fault {
         return true;
     }
-    receives_fault(log, w, &list, listed.count)
+    listed_fault(log, w, &list, listed.count)
 }
 
 // The same for the block of every worker.

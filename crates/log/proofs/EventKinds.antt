@@ -78,6 +78,16 @@ not-send e = go (e .kind)
     go Logged r = refl
     go Rest r = refl
 
+pub not-receive : (e : Event) → isSend e ≡ true → isReceive e ≡ false
+unfolding isReceive isUnlogged isLogged isSend
+not-receive e = go (e .kind)
+  where
+    go : (kind : Kind) → isKind Send kind ≡ true → (isKind Unlogged kind || isKind Logged kind) ≡ false
+    go Send r = refl
+    go Unlogged r = absurd (false≢true r)
+    go Logged r = absurd (false≢true r)
+    go Rest r = refl
+
 -- a receive without its data is not one with it
 pub not-logged : (e : Event) → isUnlogged e ≡ true → isLogged e ≡ false
 unfolding isUnlogged isLogged

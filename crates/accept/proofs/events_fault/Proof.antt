@@ -22,17 +22,17 @@ end c = rw (c .before .before .event-count .ensures .0) at (c .block-end .ensure
 
 returns-2 : tie.Need-returns-2
 unfolding faultWithin
-returns-2 c = sym (rw (end (c .before .before .before)) at (c .before .list-receives .ensures .0 (c .if2 .taken)))
+returns-2 c = sym (rw (end (c .before .before .before)) at (c .before .list-naming .ensures .0 (c .if2 .taken)))
 
--- the receives of the block are listed
+-- the events of the block that name another are listed
 listed : (c : tie.Else2)
     → Lists (workersOf (c .before .before .before .before .before .before .before .args .log .now)) (c .before .before .before .before .before .before .before .args .w)
     (c .before .before .before .before .before .before .before .args .first) (c .before .before .before .block-end .result)
-    (c .before .list-receives .last .1 .1 .1 .1 .0) (c .before .list-receives .result .count)
-listed c = c .before .list-receives .ensures .1 (c .if2 .left)
+    (c .before .list-naming .last .1 .1 .1 .1 .0) (c .before .list-naming .result .count)
+listed c = c .before .list-naming .ensures .1 (c .if2 .left)
 
-receives-fault-requires : tie.Need-receives-fault-requires
-receives-fault-requires c κs =
+listed-fault-requires : tie.Need-listed-fault-requires
+listed-fault-requires c κs =
     let lists = listed (c .before) in
     let entry = c .before .before .before .before .before .before .before .before in
     (entry .pre .0, omega (arith, lists .few, c .before .before .before .before .block-end .ensures), λ j h. lists .each j h .2)
@@ -42,7 +42,7 @@ unfolding faultWithin
 returns-3 c =
     let more = c .before .before .before .before .before .before in
     let clear = within-before _ _ _ (rw (more .before .event-count .ensures .0) at (more .if1 .left)) (more .before .before .before .pre .2) in
-    c .receives-fault .ensures ∙ listed-decide _ _ _ _ _ _ (listed (c .before .before)) clear ∙ rw (end (c .before .before .before .before .before))
+    c .listed-fault .ensures ∙ listed-decide _ _ _ _ _ _ (listed (c .before .before)) clear ∙ rw (end (c .before .before .before .before .before))
 
 pub events-fault-spec : {M : Type 1} → statement M
 events-fault-spec =
@@ -53,5 +53,5 @@ events-fault-spec =
     (λ c κs. search needs)
     (λ c κs. search needs)
     returns-2
-    receives-fault-requires
+    listed-fault-requires
     returns-3)

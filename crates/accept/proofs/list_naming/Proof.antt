@@ -1,4 +1,4 @@
--- `accept::list_receives` meets its contract. Assumes nothing.
+-- `accept::list_naming` meets its contract. Assumes nothing.
 use mathlib.Core.Path.{_≡_, sym, _∙_, ap}
 use mathlib.Core.Bool.{false≢true}
 use Prim.Native.Nat.{_+_, _-_, _<_, _≤_}
@@ -15,8 +15,8 @@ use Rattle.accept.specs.Inner.Blocks.{blockSize, Lists}
 use Rattle.accept.proofs.Message.{own-decides}
 use Rattle.accept.proofs.Lists.{lists-none, lists-more}
 use borrow.Author.Needs.{needs}
-use Rattle.accept.proofs.list_receives.Statement.{statement}
-use Rattle.accept.proofs.list_receives.Tie as tie
+use Rattle.accept.proofs.list_naming.Statement.{statement}
+use Rattle.accept.proofs.list_naming.Tie as tie
 
 abbrev Inv-loop : tie.InvT-loop
 Inv-loop log w first end list₀ start events before₀ count₀ k₀ list before count k =
@@ -70,7 +70,7 @@ returns c =
       λ other. absurd (false≢true (sym other)),
     )
 
--- there is room for one receive more
+-- there is room for one more
 room : (c : tie.Else1 Inv-loop μ-loop) → c .before .before .before .before .loop .count < blockSize
 room c =
     let turn = c .before .before .before in
@@ -81,7 +81,7 @@ loop-again c =
     let turn = c .before .before .before .before in
     let inv = turn .before .loop .inv in
     let read = turn .before .before .before in (
-      rw (c .received .ensures .0, event (c .before .before .before))
+      rw (c .names .ensures .0, event (c .before .before .before))
           (lists-more _ _ _ _ _ _ (inv .0) (rw (read .event-count .ensures .0) at (inside turn)) (rw (inv .2) (room (c .before))) (sym (own (c .before .before)) ∙ c .before .if1 .left)),
       omega (arith, turn .loop-test .taken),
       simp length-set (inv .2),
@@ -94,8 +94,8 @@ returns-2 c =
     let last : c .before .loop .k ≡ c .before .before .before .before .before .before .args .end = omega (arith, c .loop-test .left, inv .1) in
     (λ fault. absurd (false≢true fault), λ passed. rw last at (inv .0))
 
-pub list-receives-spec : {M : Type 1} → statement M
-list-receives-spec =
+pub list-naming-spec : {M : Type 1} → statement M
+list-naming-spec =
     tie.close
     (tie.spec
     Inv-loop

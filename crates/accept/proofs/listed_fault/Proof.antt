@@ -1,4 +1,4 @@
--- `accept::receives_fault` meets its contract. Assumes nothing.
+-- `accept::listed_fault` meets its contract. Assumes nothing.
 use mathlib.Core.Path.{_≡_, refl, _∙_, ap}
 use Prim.Native.Nat.{_+_, _-_}
 use native.Mathlib.Omega.{arith}
@@ -7,11 +7,11 @@ use Rattle.lent.specs.Lent.{at}
 use Rattle.log.specs.Layout.{workersOf}
 use Rattle.log.specs.Model.{eventOf}
 use Rattle.log.proofs.Read.{count-field, next-within, next-event}
-use Rattle.accept.specs.Inner.Message.{receiveFault}
-use Rattle.accept.specs.Inner.Blocks.{listedFault, IsReceived}
+use Rattle.accept.specs.Inner.Message.{namingFault}
+use Rattle.accept.specs.Inner.Blocks.{listedFault, IsListed}
 use borrow.Author.Needs.{needs}
-use Rattle.accept.proofs.receives_fault.Statement.{statement}
-use Rattle.accept.proofs.receives_fault.Tie as tie
+use Rattle.accept.proofs.listed_fault.Statement.{statement}
+use Rattle.accept.proofs.listed_fault.Tie as tie
 
 abbrev Inv-loop : tie.InvT-loop
 Inv-loop log w list count start events j₀ j = Sought (listedFault (workersOf log) w list) count j
@@ -21,7 +21,7 @@ abbrev μ-loop : tie.MeasureT-loop
 
 -- the event that number j of the list stands for
 it : (c : tie.After-event-in-arg Inv-loop μ-loop)
-    → IsReceived (workersOf (c .before .before .before .before .before .before .args .log .now)) (c .before .before .before .before .before .before .args .w)
+    → IsListed (workersOf (c .before .before .before .before .before .before .args .log .now)) (c .before .before .before .before .before .before .args .w)
     (at (c .before .before .before .before .before .before .args .list .now) (c .before .before .loop .j))
 it c = c .before .before .before .before .before .before .pre .2 _ (c .before .loop-test .taken)
 
@@ -40,15 +40,15 @@ event c =
     let within = rw (← read .event-count .ensures .0) at (it (c .before) .within) in
     c .event-in .ensures ∙ next-event _ (read .before .before .before .pre .0) _ _ _ _ (read .before .event-start .ensures) (read .event-count .ensures .0) within
 
-receive-fault-requires : tie.Need-receive-fault-requires Inv-loop μ-loop
-receive-fault-requires c κs = (c .before .before .before .before .before .before .before .pre .0, rw (event c) (it (c .before) .receive), rw (event c) (it (c .before) .peer))
+naming-fault-requires : tie.Need-naming-fault-requires Inv-loop μ-loop
+naming-fault-requires c κs = (c .before .before .before .before .before .before .before .pre .0, rw (event c) (it (c .before) .peer))
 
-fault : (c : tie.After-receive-fault Inv-loop μ-loop)
-    → c .receive-fault .result
+fault : (c : tie.After-naming-fault Inv-loop μ-loop)
+    → c .naming-fault .result
     ≡ listedFault (workersOf (c .before .before .before .before .before .before .before .before .args .log .now)) (c .before .before .before .before .before .before .before .before .args .w)
     (c .before .before .before .before .before .before .before .before .args .list .now) (c .before .before .before .before .loop .j)
 unfolding listedFault
-fault c = c .receive-fault .ensures ∙ ap (receiveFault _ _) (event (c .before))
+fault c = c .naming-fault .ensures ∙ ap (namingFault _ _) (event (c .before))
 
 returns : tie.Need-returns Inv-loop μ-loop
 returns c = let turn = c .before .before .before .before in sought-found (turn .before .loop .inv) (turn .loop-test .taken) (fault (c .before)) (c .if1 .taken) refl
@@ -59,8 +59,8 @@ loop-again c = let turn = c .before .before .before .before in sought-more (turn
 returns-2 : tie.Need-returns-2 Inv-loop μ-loop
 returns-2 c = sought-end (c .before .loop .inv) (c .loop-test .left) refl
 
-pub receives-fault-spec : {M : Type 1} → statement M
-receives-fault-spec =
+pub listed-fault-spec : {M : Type 1} → statement M
+listed-fault-spec =
     tie.close
     (tie.spec
     Inv-loop
@@ -73,7 +73,7 @@ receives-fault-spec =
     (λ c. omega (arith, c .loop-test .taken, c .before .before .before .before .before .pre .1))
     (λ c. omega (arith, it c .within, count-field _ (c .before .before .before .before .before .before .pre .0) (c .before .before .before .before .before .before .args .w) .1))
     event-in-requires
-    receive-fault-requires
+    naming-fault-requires
     returns
     (λ c. omega arith)
     (λ c. omega arith)
