@@ -13,7 +13,7 @@ ghost use Rattle.accept.specs.Refusal.{logRefusal};
 ghost use Rattle.cost.specs.Words.{cutIn, startIn, cutsIn, startsIn};
 ghost use Rattle.cost.specs.Cost.{eventsOf, builtIn, workerUnits, unitsOf};
 ghost use Rattle.cost.specs.Inner.Held.{IsHeld};
-ghost use Rattle.cost.specs.Inner.Counted.{countedUnits};
+ghost use Rattle.cost.specs.Inner.Counted.{countedAs, countedUnits};
 
 // The cut of worker w in plan words.
 pub fn cut_in(words: &[u32], w: usize) -> u32
@@ -55,20 +55,35 @@ fn units_for(role: usize, kind: Kind) -> u64
     UNITS[role][column]
 }
 
-// The units of `events` events of a role, of which `receives` are receives; `columns` is the sum of their columns.
-fn counted_units(role: usize, events: u32, receives: u32, columns: u32) -> u64
-    requires { ⌜ (role < 4) × (events ≤ maxEvents) × (receives ≤ events) × (receives ≤ columns) × (columns ≤ 2 * receives) ⌝ }
-    ensures answer { λ r. ⌜ r ≡ countedUnits builtIn role events receives columns ⌝ }
+// What a receive with its data adds to the sum of counts. A worker has fewer events: the remainder by it counts the receives without
+// their data, and the quotient those with it.
+const LOGGED_ONE: u64 = 4294967296;
+
+// What an event of a kind adds to the sum of counts.
+fn counted_as(kind: Kind) -> u64
+    ensures answer { λ r. ⌜ r ≡ countedAs kind ⌝ }
 {
-    let sends = (events - receives) as u64;
-    let logged = (columns - receives) as u64;
-    let unlogged = receives as u64 - logged;
+    match kind {
+        Kind::Send => 0,
+        Kind::Unlogged => 1,
+        Kind::Logged => LOGGED_ONE,
+        Kind::Rest => 0,
+    }
+}
+
+// The units of `events` events of a role, of which `unlogged` are receives without their data and `logged` receives with it.
+fn counted_units(role: usize, events: u32, unlogged: u64, logged: u64) -> u64
+    requires { ⌜ (role < 4) × (events ≤ maxEvents) × (unlogged + logged ≤ events) ⌝ }
+    ensures answer { λ r. ⌜ r ≡ countedUnits builtIn role events unlogged logged ⌝ }
+{
+    let sends = events as u64 - (unlogged + logged);
     sends * units_for(role, Kind::Send)
         + unlogged * units_for(role, Kind::Unlogged)
         + logged * units_for(role, Kind::Logged)
 }
 
-// The units of the replayed events of worker w. Receives are counted, whatever the order of the kinds, and the table is read at the end.
+// The units of the replayed events of worker w. One sum counts the receives of both kinds, whatever their order, and the table is read at
+// the end.
 fn worker_units(log: &[u8], words: &[u32], w: usize) -> u64
     requires { ⌜ ((logRefusal (now log) ≡ 0) × IsHeld (workersOf (now log)) (now words)) × (w < workerCount (workersOf (now log))) ⌝ }
     ensures answer { λ r. ⌜ r ≡ workerUnits builtIn (workersOf (now (log .entry)))
@@ -76,21 +91,19 @@ fn worker_units(log: &[u8], words: &[u32], w: usize) -> u64
 {
     let cut = cut_in(words, w);
     let start = start_in(words, w);
-    let mut receives: u32 = 0;
-    let mut columns: u32 = 0;
+    let mut counts: u64 = 0;
     let mut k = start;
     while k < cut {
         let e = log::event_at(log, w, k + 1);
-        receives += log::received(e);
         let kind = e.kind;
-        columns += log::column(kind);
+        counts += counted_as(kind);
         k += 1;
     }
     counted_units(
         log::role_of(log, w) as usize,
         cut - start,
-        receives,
-        columns,
+        counts % LOGGED_ONE,
+        counts / LOGGED_ONE,
     )
 }
 

@@ -14,7 +14,7 @@ use Rattle.log.specs.declared.Kind.{Kind}
 use Rattle.log.specs.declared.Kind.the-variants.{Send, Unlogged, Logged, Rest}
 use Rattle.log.specs.declared.Event.{Event}
 use Rattle.log.specs.Kind.{kindNumber, kindOf, isKind, recordTable, KindTable}
-use Rattle.log.specs.Model.{noEvent, isSend, isUnlogged, isLogged, isReceive, received}
+use Rattle.log.specs.Model.{noEvent, isSend, isUnlogged, isLogged, isReceive}
 
 -- ---- the record table
 module _ (byte : ℕ) where
@@ -103,8 +103,3 @@ not-logged e = go (e .kind)
 pub some-kind : (e : Event) → (isSend e ≡ true) ⊎ (isReceive e ≡ true) → e .kind ≢ Rest
 unfolding isSend isReceive isUnlogged isLogged
 some-kind e known rest = ⊎-elim (λ q. false≢true (rw rest at q)) (λ q. false≢true (rw rest at q)) known
-
--- the messages that an event of a kind receives
-pub received-of : (e : Event) (kind : Kind) → e .kind ≡ kind → received e ≡ cond (isKind Unlogged kind || isKind Logged kind) 1 0
-unfolding received isReceive isUnlogged isLogged
-received-of e kind same = rw same

@@ -1,6 +1,6 @@
 -- `cost::counted_units` meets its contract. Assumes nothing.
 use mathlib.Core.Path.{_≡_}
-use Prim.Native.Nat.{ℕ, _-_, _*_, _≤_}
+use Prim.Native.Nat.{ℕ, _+_, _-_, _*_, _≤_}
 use native.Mathlib.Omega.{arith}
 use Rattle.log.specs.declared.Kind.the-variants.{Send, Unlogged, Logged}
 use Rattle.log.specs.Limits.{maxEvents}
@@ -12,15 +12,14 @@ use Rattle.cost.proofs.counted_units.Statement.{statement}
 use Rattle.cost.proofs.counted_units.Tie as tie
 
 -- each product is small
-sends : (c : tie.Start) (units : ℕ) → units ≡ builtIn (c .args .role) Send → (c .args .events - c .args .receives) * units ≤ maxEvents * 9
-sends c units q = product-few (c .args .events - c .args .receives) _ Send units (omega (arith, c .pre .1)) q
+sends : (c : tie.Start) (units : ℕ) → units ≡ builtIn (c .args .role) Send → (c .args .events - (c .args .unlogged + c .args .logged)) * units ≤ maxEvents * 9
+sends c units q = product-few (c .args .events - (c .args .unlogged + c .args .logged)) _ Send units (omega (arith, c .pre .1)) q
 
-unlogged : (c : tie.Start) (units : ℕ) → units ≡ builtIn (c .args .role) Unlogged
-    → (c .args .receives - (c .args .columns - c .args .receives)) * units ≤ maxEvents * 9
-unlogged c units q = product-few (c .args .receives - (c .args .columns - c .args .receives)) _ Unlogged units (omega (arith, c .pre .1, c .pre .2)) q
+unlogged : (c : tie.Start) (units : ℕ) → units ≡ builtIn (c .args .role) Unlogged → c .args .unlogged * units ≤ maxEvents * 9
+unlogged c units q = product-few (c .args .unlogged) _ Unlogged units (omega (arith, c .pre .1)) q
 
-logged : (c : tie.Start) (units : ℕ) → units ≡ builtIn (c .args .role) Logged → (c .args .columns - c .args .receives) * units ≤ maxEvents * 9
-logged c units q = product-few (c .args .columns - c .args .receives) _ Logged units (omega (arith, c .pre .1, c .pre .2, c .pre .4)) q
+logged : (c : tie.Start) (units : ℕ) → units ≡ builtIn (c .args .role) Logged → c .args .logged * units ≤ maxEvents * 9
+logged c units q = product-few (c .args .logged) _ Logged units (omega (arith, c .pre .1)) q
 
 mul-result : tie.Need-mul-result
 mul-result c = omega (arith, sends (c .before) _ (c .units-for .ensures))
@@ -52,9 +51,6 @@ pub counted-units-spec : {M : Type 1} → statement M
 counted-units-spec =
     tie.close
     (tie.spec
-    (λ c. search needs)
-    (λ c. search needs)
-    (λ c. search needs)
     (λ c. search needs)
     (λ c. search needs)
     (λ c κs. search needs)

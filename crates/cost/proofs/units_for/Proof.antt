@@ -1,5 +1,4 @@
 -- `cost::units_for` meets its contract. Assumes nothing.
-use Prim.Native.Nat.{_-_}
 use Rattle.cost.specs.Cost.{builtIn}
 use borrow.Author.Needs.{needs}
 use Rattle.cost.proofs.units_for.Statement.{statement}

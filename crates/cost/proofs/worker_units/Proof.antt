@@ -7,22 +7,22 @@ use borrow.Author.Needs.{needs}
 use Rattle.log.specs.declared.Event.{Event}
 use Rattle.log.specs.Limits.{maxEvents}
 use Rattle.log.specs.Layout.{workersOf}
-use Rattle.log.specs.Kind.{column}
-use Rattle.log.specs.Model.{eventCount, eventOf, received}
+use Rattle.log.specs.Model.{eventCount, eventOf}
 use Rattle.accept.proofs.Accepted.{accepted-layout, well-formed}
 use Rattle.cost.specs.Cost.{workerUnits, builtIn}
 use Rattle.cost.specs.Words.{startsIn}
+use Rattle.cost.specs.Inner.Counted.{countedAs}
 use Rattle.cost.proofs.Held.{cuts-at, starts-in-at, HeldWorker, held-worker}
-use Rattle.cost.proofs.Counted.{Counted, counted-none, counted-few, counted-units, counted-more}
+use Rattle.cost.proofs.Counted.{Counted, counted-none, counted-few, counted-fits, counted-units, counted-more}
 use Rattle.cost.proofs.worker_units.Statement.{statement}
 use Rattle.cost.proofs.worker_units.Tie as tie
 
 abbrev Inv-loop : tie.InvT-loop
-Inv-loop log words w cut start receives₀ columns₀ k₀ receives columns k =
-    (k ≤ cut) × Counted builtIn (workersOf log) (startsIn (workersOf log) words) w k receives columns
+Inv-loop log words w cut start counts₀ k₀ counts k =
+    (k ≤ cut) × Counted builtIn (workersOf log) (startsIn (workersOf log) words) w k counts
 
 abbrev μ-loop : tie.MeasureT-loop
-μ-loop log words w cut start receives₀ columns₀ k₀ receives columns k = cut - k
+μ-loop log words w cut start counts₀ k₀ counts k = cut - k
 
 -- what the words give the worker
 mine : (c : tie.Start Inv-loop μ-loop) → HeldWorker (workersOf (c .args .log .now)) (c .args .words .now) (c .args .w)
@@ -55,9 +55,9 @@ next : (c : tie.In-loop Inv-loop μ-loop) (e : Event)
     → e ≡ eventOf (workersOf (c .before .before .before .before .before .before .args .log .now)) (c .before .before .before .before .before .before .args .w) (c .before .loop .k + 1)
     → Counted builtIn (workersOf (c .before .before .before .before .before .before .args .log .now))
     (startsIn (workersOf (c .before .before .before .before .before .before .args .log .now)) (c .before .before .before .before .before .before .args .words .now))
-    (c .before .before .before .before .before .before .args .w) (c .before .loop .k + 1) (c .before .loop .receives + received e) (c .before .loop .columns + column (e .kind))
+    (c .before .before .before .before .before .before .args .w) (c .before .loop .k + 1) (c .before .loop .counts + countedAs (e .kind))
 next c e q =
-    counted-more _ _ _ _ _ _ _ (c .before .loop .inv .1) e q (well-formed _ (c .before .before .before .before .before .before .pre .0 .0)) (inside c .1)
+    counted-more _ _ _ _ _ _ (c .before .loop .inv .1) e q (well-formed _ (c .before .before .before .before .before .before .pre .0 .0)) (inside c .1)
 
 add-event-at : tie.Need-add-event-at Inv-loop μ-loop
 add-event-at c = omega (arith, inside c .0)
@@ -65,27 +65,19 @@ add-event-at c = omega (arith, inside c .0)
 event-at-requires : tie.Need-event-at-requires Inv-loop μ-loop
 event-at-requires c κs = accepted-layout _ (c .before .before .before .before .before .before .pre .0 .0)
 
-add-receives : tie.Need-add-receives Inv-loop μ-loop
-add-receives c =
-    let few = counted-few _ _ _ _ _ _ _ (c .before .before .before .loop .inv .1) in
-    omega (arith, few .0, inside (c .before .before) .0, c .received .ensures .1)
-
-add-columns : tie.Need-add-columns Inv-loop μ-loop
-add-columns c =
-    let few = counted-few _ _ _ _ _ _ _ (next (c .before .before .before) _ (c .before .before .event-at .ensures)) in
-    rw (c .column .ensures) (omega (arith, few .0, few .2, inside (c .before .before .before) .0))
+add-counts : tie.Need-add-counts Inv-loop μ-loop
+add-counts c =
+    let more = next (c .before .before) _ (c .before .event-at .ensures) in
+    rw (c .counted-as .ensures) (omega (arith, counted-fits _ _ _ _ _ _ more (omega (arith, inside (c .before .before) .0))))
 
 add-k : tie.Need-add-k Inv-loop μ-loop
-add-k c = omega (arith, inside (c .before .before .before) .0)
+add-k c = omega (arith, inside (c .before .before) .0)
 
 loop-less : tie.Need-loop-less Inv-loop μ-loop
-loop-less c = omega (arith, c .before .before .before .loop-test .taken)
+loop-less c = omega (arith, c .before .before .loop-test .taken)
 
 loop-again : tie.Need-loop-again Inv-loop μ-loop
-loop-again c = (
-  omega (arith, c .before .before .before .loop-test .taken),
-  rw (c .before .received .ensures .0, c .column .ensures) (next (c .before .before .before) _ (c .before .before .event-at .ensures)),
-)
+loop-again c = (omega (arith, c .before .before .loop-test .taken), rw (c .counted-as .ensures) (next (c .before .before) _ (c .before .event-at .ensures)))
 
 role-of-requires : tie.Need-role-of-requires Inv-loop μ-loop
 role-of-requires c κs = accepted-layout _ (c .before .before .before .before .before .before .pre .0 .0)
@@ -97,26 +89,26 @@ sub-counted-units c =
 counted-units-requires : tie.Need-counted-units-requires Inv-loop μ-loop
 counted-units-requires c κs =
     let start = c .before .before .before .before .before .before .before in
-    let few = counted-few _ _ _ _ _ _ _ (c .before .before .loop .inv .1) in
+    let inv = c .before .before .loop .inv in
+    let most = mine start .most in
+    let word = c .before .before .before .before .cut-in .ensures in
+    let few = counted-few _ _ _ _ _ _ (inv .1) (omega (arith, inv .0)) in
     let same = starts-in-at _ (start .args .words .now) (start .args .w) (start .pre .1) in
-    let word = c .before .before .before .start-in .ensures in (
-      omega (arith, c .role-of .ensures .1),
-      omega (arith, c .before .before .before .before .cut-in .ensures, mine start .most),
-      omega (arith, few .0, same, word, c .before .before .loop .inv .0),
-      few .1,
-      few .2,
-    )
+    let first = c .before .before .before .start-in .ensures in
+    (omega (arith, c .role-of .ensures .1), omega arith, omega (arith, inv .0))
 
 returns : tie.Need-returns Inv-loop μ-loop
 unfolding workerUnits
 returns c =
     let start = c .before .before .before .before .before .before .before .before in
     let inv = c .before .before .before .loop .inv in
+    let most = mine start .most in
+    let word = c .before .before .before .before .before .cut-in .ensures in
     let all = le-antisymm (inv .0) (c .before .before .loop-test .left) in
     let same = starts-in-at _ (start .args .words .now) (start .args .w) (start .pre .1) ∙ sym (c .before .before .before .before .start-in .ensures) in
     c .counted-units .ensures
-    ∙ sym (rw (cuts-at _ _ _ (start .pre .1), ← c .before .before .before .before .before .cut-in .ensures, ← all, c .before .role-of .ensures .0, ← same)
-    (counted-units _ _ _ _ _ _ _ (inv .1)))
+    ∙ sym (rw (cuts-at _ _ _ (start .pre .1), ← word, ← all, c .before .role-of .ensures .0, ← same)
+    (counted-units _ _ _ _ _ _ (inv .1) (omega (arith, inv .0))))
 
 pub worker-units-spec : {M : Type 1} → statement M
 worker-units-spec =
@@ -130,9 +122,7 @@ worker-units-spec =
     add-event-at
     event-at-requires
     (λ c κs. search needs)
-    add-receives
-    (λ c κs. search needs)
-    add-columns
+    add-counts
     add-k
     loop-less
     loop-again
