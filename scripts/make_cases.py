@@ -1027,6 +1027,44 @@ plan_case("covering_set_past_the_cut_in_one_worker", AT_THE_LAST, 2, 1, (1, 1, 0
 # one event later every checkpoint of set 2 is at the cut: every worker starts there, and nothing is replayed
 plan_case("covering_set_at_the_cut", AT_THE_LAST, 2, 2, (1, 2, 2), [2, 2, 2], units=0, covering=(0, 2), cut=[1, 2, 2])
 
+# ---- All 256 kind bytes: "Kind 1 is a send, 2 a receive without its data logged, 3 a receive with its data logged". The rest are
+# refused by 7.
+
+
+def with_kind(byte, peer_event=2):
+    """A log with this kind byte in event 2 of worker 1. Its peer event is 2 as for a receive, or 0 as for a send.
+
+    Nothing else in it is at fault. Set 1 is at the last event of worker 0 and at the first of worker 1.
+    """
+    return build([
+        Worker(3, [("receive", 1, 1, 2), ("send", 1, 3)], [(2, 1)]),
+        Worker(2, [("send", 0, 1), ("raw", byte, 0, 0, peer_event, 4), ("send", 0, 5)], [(1, 1)]),
+    ])
+
+
+# a send: worker 1 receives nothing, so no event of worker 0 is within the cut. Worker 1 starts at set 1 and replays two sends of
+# role 2: 3 + 3 units. Set 1 covers: no receive is after it
+plan_case("kind_byte_1", with_kind(1, peer_event=0), 1, 3, (0, 1), [0, 1], units=6, covering=(0, 1), cut=[0, 3])
+# a receive of send 0/2 without its data. Worker 1 replays it, so worker 0 starts before its checkpoint and replays receive 1/1, so
+# worker 1 starts before its checkpoint too. Every event is replayed: 5 + 2 units of role 3 and 3 + 8 + 3 of role 2. Set 1 does not
+# cover: receive 0/2 is after it, and of the send at the sender's checkpoint
+plan_case("kind_byte_2", with_kind(2), 1, 3, (0, 0), [0, 0], units=21, covering=(0,), cut=[2, 3])
+# the same receive with its data: set 1 covers, and both workers start at it. Worker 1 replays the receive and a send: 9 + 3 units
+plan_case("kind_byte_3", with_kind(3), 1, 3, (2, 1), [1, 1], units=12, covering=(0, 1), cut=[2, 3])
+# the other 253 bytes, with the peer event of the receive
+for byte in range(256):
+    if byte not in (1, 2, 3):
+        case("kind_byte_%d" % byte, 7, with_kind(byte), worker=1, event=3)
+# two of them with the peer event of the send
+for byte in (4, 255):
+    case("kind_byte_%d_without_a_peer_event" % byte, 7, with_kind(byte, peer_event=0), worker=1, event=3)
+# breakpoint 0/2, the send that the receive names: set 1 is at the cut, both workers start at it, and nothing is replayed. The upper
+# line stops before the receive; if the event is a send, it has all events
+for byte, peer_event, covering, upper in ((1, 0, (0, 1), [2, 3]), (2, 2, (0,), [2, 1]), (3, 2, (0, 1), [2, 1])):
+    log = with_kind(byte, peer_event)
+    plan_case("kind_byte_%d_past_the_cut" % byte, log, 0, 2, (2, 1), [1, 1], units=0, covering=covering, cut=[2, 1])
+    assert reference.upper_line(reference.read(log), 0, 2) == upper
+
 
 def files():
     """The content of each file, by its path in the crate."""
