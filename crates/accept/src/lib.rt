@@ -128,8 +128,8 @@ fn names(e: Event) -> u32
 }
 
 // Whether an event of worker w fails a test that looks at no event but the one before it, whose stamp is `before`. Of the
-// kind it asks only whether an event that names none is a send, and leaves the rest to `naming_fault`. So each part of the compiled pass has one
-// comparison with the event's kind byte.
+// kind it asks only whether an event that names none is a send; `naming_fault` asks whether one that names another is a receive. So each part of
+// the compiled pass has one comparison with the event's kind byte.
 fn own_fault(log: &[u8], w: usize, before: u32, e: Event) -> bool
     requires { ⌜ layoutRefusal (now log) ≡ 0 ⌝ }
     ensures answer { λ r. ⌜ r ≡ ownFault (workersOf (now (log .entry))) w before e ⌝ }
