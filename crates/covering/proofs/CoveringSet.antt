@@ -5,7 +5,7 @@ use mathlib.Core.Path.{_≡_, sym, _∙_, ap}
 use mathlib.Core.Bool.{true, false, not, false≢true}
 use mathlib.Core.Logic.{⊎-elim, _↔_}
 use mathlib.Core.List.{List}
-use Prim.Native.Nat.{ℕ, _+_, _<_}
+use Prim.Native.Nat.{ℕ, _+_, _<_, _≤_}
 use native.Mathlib.Omega.{arith}
 use borrow.Author.Tests.{eqb-true, eq-eqb, not-true, not-false}
 use lib.Dec.{eqb}
@@ -26,21 +26,30 @@ use Rattle.lent.specs.Lent.{at}
 use Rattle.causality.specs.Cut.{IsCut}
 use Rattle.choice.specs.Choice.{mayChoose, IsChoice, startsOf, Startable, isStartable}
 use Rattle.covering.specs.Covering.{isSet, Covers, cutOfAll, StartableSet, withoutSet, indexOf, setIndex, setStarts, coveringSet, CoversWhenStartable}
-use Rattle.choice.proofs.Choosable.{may-below, may-initial}
+use Rattle.choice.proofs.Choosable.{may-recorded, may-below, may-initial}
 use Rattle.choice.proofs.Startable.{starts-at, unlogged-receive, startable-iff, initial-choice, initial-startable}
 
+-- identifiers rise within a worker: one checkpoint only has an identifier
+pub identifier-unique : (log : Workers) → WellFormed log → (w c d : ℕ) → c ≤ checkpointCount log w → d ≤ checkpointCount log w
+    → checkpointOf log w c .identifier ≡ checkpointOf log w d .identifier → c ≡ d
+identifier-unique log ok w c d first second same =
+    let rises = rising (λ k. checkpointOf log w k .identifier) (checkpointCount log w) (ok .identified w) in
+    ⊎-elim
+    (λ l. let no : ⊥ = omega (arith, rises c d l (omega arith)) in absurd no)
+    (λ l. ⊎-elim (λ m. let no : ⊥ = omega (arith, rises d c m (omega arith)) in absurd no) (λ m. omega arith) (lt-or-le d c))
+    (lt-or-le c d)
+
 module _ (log : Workers) (t : ℕ) where
-  set-below : (w c : ℕ) → isSet log t w c ≡ true → c < checkpointCount log w + 1
-  unfolding isSet
-  set-below w c e = may-below log w c (and-true-left (mayChoose log w c) (eqb (checkpointOf log w c .identifier) t) e)
-
-  set-identifier : (w c : ℕ) → isSet log t w c ≡ true → checkpointOf log w c .identifier ≡ t
-  unfolding isSet
-  set-identifier w c e = eqb-true (checkpointOf log w c .identifier) t (and-true-right (mayChoose log w c) (eqb (checkpointOf log w c .identifier) t) e)
-
-  set-may : (w c : ℕ) → isSet log t w c ≡ true → mayChoose log w c ≡ true
+  pub set-may : (w c : ℕ) → isSet log t w c ≡ true → mayChoose log w c ≡ true
   unfolding isSet
   set-may w c e = and-true-left (mayChoose log w c) (eqb (checkpointOf log w c .identifier) t) e
+
+  set-below : (w c : ℕ) → isSet log t w c ≡ true → c < checkpointCount log w + 1
+  set-below w c e = may-below log w c (set-may w c e)
+
+  pub set-identifier : (w c : ℕ) → isSet log t w c ≡ true → checkpointOf log w c .identifier ≡ t
+  unfolding isSet
+  set-identifier w c e = eqb-true (checkpointOf log w c .identifier) t (and-true-right (mayChoose log w c) (eqb (checkpointOf log w c .identifier) t) e)
 
   -- the index of the set is 0 where no checkpoint has identifier t
   pub set-none : (w : ℕ) → ((c : ℕ) → c < checkpointCount log w + 1 → isSet log t w c ≡ false) → setIndex log t w ≡ 0
@@ -48,17 +57,11 @@ module _ (log : Workers) (t : ℕ) where
   set-none w none = last-zero (isSet log t w) (indexOf log w) (checkpointCount log w + 1) none
 
   module _ (ok : WellFormed log) where
-    -- identifiers rise within a worker: one checkpoint only has identifier t
+    -- one checkpoint only has identifier t
     pub set-unique : (w c d : ℕ) → isSet log t w c ≡ true → isSet log t w d ≡ true → c ≡ d
     set-unique w c d first second =
-        let one = set-below w c first in
-        let two = set-below w d second in
-        let same : checkpointOf log w c .identifier ≡ checkpointOf log w d .identifier = set-identifier w c first ∙ sym (set-identifier w d second) in
-        let rises = rising (λ k. checkpointOf log w k .identifier) (checkpointCount log w) (ok .identified w) in
-        ⊎-elim
-        (λ l. let no : ⊥ = omega (arith, rises c d l (omega arith)) in absurd no)
-        (λ l. ⊎-elim (λ m. let no : ⊥ = omega (arith, rises d c m (omega arith)) in absurd no) (λ m. omega arith) (lt-or-le d c))
-        (lt-or-le c d)
+        identifier-unique log ok w c d (may-recorded log w c (set-may w c first)) (may-recorded log w d (set-may w d second))
+        (set-identifier w c first ∙ sym (set-identifier w d second))
 
     -- its index is the set's
     pub set-index : (w c : ℕ) → isSet log t w c ≡ true → setIndex log t w ≡ checkpointOf log w c .index

@@ -1,7 +1,7 @@
 -- Demand 3 holds of the plan of every accepted log and breakpoint event, with every list of worker numbers. Assumes nothing.
 use mathlib.Core.Path.{_≡_, refl, sym, _∙_, ap}
 use mathlib.Core.List.{List}
-use Prim.Native.Nat.{ℕ, _+_, _*_, _/_, _%_, _<_}
+use Prim.Native.Nat.{ℕ, _+_, _*_, _<_}
 use native.Mathlib.Omega.{arith}
 use lib.ListN.{length, getD}
 use Rattle.ranges.proofs.Tabulate.{getD-tabulate}
@@ -17,10 +17,10 @@ use Rattle.lower_cut.specs.Figure2.{lowerCut}
 use Rattle.lower_cut.proofs.LowerCut.{lower-is, lower-happened}
 use Rattle.lower_cut.proofs.VisitCount.{visits-few}
 use Rattle.choice.specs.Choice.{startsOf}
-use Rattle.restore.specs.Plan.{planChoice, planStarts, planAt, planWord, planWords}
+use Rattle.restore.specs.Plan.{planChoice, planStarts, planAt, planWords}
 use Rattle.cost.specs.Words.{cutsIn, startsIn}
 use Rattle.restore.specs.Calls.{foundPlan, planTotals}
-use Rattle.restore.proofs.Written.{plan-cut, plan-cuts, plan-starts-in}
+use Rattle.restore.proofs.Written.{plan-cut, plan-shown, plan-cuts, plan-starts-in}
 use Rattle.restore.proofs.Latest.{AreLatest, plan-latest, plan-starts, plan-starts-latest}
 use Rattle.cost.proofs.Costs.{events-fall, units-fall}
 use Rattle.replay.specs.Machine.{positionsAfter, listed, stepWords}
@@ -34,12 +34,9 @@ use Rattle.replay.proofs.Works.{works-exactly, works-within}
 
 -- the third plan word of a worker is the identifier of the plan's checkpoint
 pub plan-identifier : (log : Workers) (cut : List ℕ) (w : ℕ) → w < workerCount log → at (planWords log cut) (3 * w + 2) ≡ getD (planChoice log cut) w initial .identifier
-unfolding planWords planWord planChoice planAt
+unfolding planChoice planAt
 plan-identifier log cut w h =
-    let r : (3 * w + 2) % 3 ≡ 2 = omega arith in
-    let q : (3 * w + 2) / 3 ≡ w = omega arith in
-    getD-tabulate (planWord log cut (planStarts log cut)) (3 * workerCount log) (3 * w + 2) 0 (omega arith)
-    ∙ rw (r, q) (sym (ap (λ (p : Checkpoint). p .identifier) (getD-tabulate (planAt log (planStarts log cut)) (workerCount log) w initial h)))
+    plan-shown log cut w h ∙ sym (ap (λ (p : Checkpoint). p .identifier) (getD-tabulate (planAt log (planStarts log cut)) (workerCount log) w initial h))
 
 module _ (log : Workers) (ok : WellFormed log) (i e : ℕ) (event : IsEvent log i e) where
   abbrev cut : List ℕ

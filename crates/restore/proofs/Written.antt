@@ -19,7 +19,7 @@ use Rattle.lower_cut.specs.Figure2.{lowerCut}
 use Rattle.lower_cut.proofs.LowerCut.{lower-is}
 use Rattle.lent.specs.Lent.{at}
 use Rattle.causality.specs.Cut.{IsCut}
-use Rattle.restore.specs.Plan.{planStarts, planWord, planWords}
+use Rattle.restore.specs.Plan.{identifierAt, planStarts, planWord, planWords}
 use Rattle.cost.specs.Words.{cutIn, startIn, cutsIn, startsIn}
 use Rattle.cost.specs.Inner.Held.{IsHeld}
 use Rattle.restore.proofs.Latest.{plan-starts-latest}
@@ -64,6 +64,13 @@ module _ (log : Workers) (cut : List ℕ) where
       let r : (3 * w + 1) % 3 ≡ 1 = omega arith in
       let q : (3 * w + 1) / 3 ≡ w = omega arith in
       getD-tabulate (planWord log cut (planStarts log cut)) (3 * workerCount log) (3 * w + 1) 0 (omega arith) ∙ rw (r, q)
+
+  pub plan-shown : (w : ℕ) → w < workerCount log → at (planWords log cut) (3 * w + 2) ≡ identifierAt log w (at (planStarts log cut) w)
+  unfolding planWords planWord
+  plan-shown w h =
+      let r : (3 * w + 2) % 3 ≡ 2 = omega arith in
+      let q : (3 * w + 2) / 3 ≡ w = omega arith in
+      getD-tabulate (planWord log cut (planStarts log cut)) (3 * workerCount log) (3 * w + 2) 0 (omega arith) ∙ rw (r, q)
 
   -- the plan words give the cut ..
   pub plan-cuts : IsCut log cut → cutsIn log (planWords log cut) ≡ cut
