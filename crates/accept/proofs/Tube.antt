@@ -5,7 +5,8 @@ use Rattle.ranges.specs.Fold.{anyBelow, tabulate}
 use Rattle.bytes_le.specs.Little.{le}
 use Rattle.log.specs.Model.{Log, workerCount, worker, eventCount, eventOf, checkpointCount, checkpointOf, isSend, isUnlogged, isLogged, isReceive}
 use Rattle.log.specs.Layout.{field, section, eventSection, checkpointSection, eventRecord, checkpointRecord, workerOf, workersOf, logOf}
-use Rattle.log.specs.Forms.{isForm, receivesOnce}
+use Rattle.log.specs.Forms.{isForm, marksWithdrawn, receivesOnce}
+use Rattle.log.specs.Mark.{hasMark, withoutMark}
 use Rattle.log.specs.Header.{lengthFault, formFault, sizeFault, headerFault, limitFault, outside, sectionFault, entryFault, someEntry, entriesRefusal, layoutRefusal}
 use Rattle.accept.specs.Records.{kindFault, peerFault, sendFault, fieldFault, stampFault, sendOf, sourceFault, orderFault, anyFault, eventFault}
 use Rattle.accept.specs.Records.{checkpointFault, recordFault, recordCount, workerFault, someRecord}
@@ -15,7 +16,7 @@ use Rattle.accept.specs.Refusal.{eventsRefusal, recordsRefusal, contentR
 use Rattle.accept.specs.Tube.{tube, tubeLog}
 
 pub tube-model : logOf tube ≡ tubeLog
-unfolding le tabulate field section eventSection checkpointSection eventRecord checkpointRecord workerOf workersOf
+unfolding le tabulate field section eventSection checkpointSection eventRecord marksWithdrawn hasMark withoutMark checkpointRecord workerOf workersOf
 tube-model = refl
 
 pub tube-workers : workersOf tube ≡ tubeLog .workers
@@ -23,7 +24,7 @@ tube-workers = ap (λ (l : Log). l .workers) tube-model
 
 pub tube-accepted : logRefusal tube ≡ 0
 unfolding anyBelow le tabulate workerCount worker eventCount eventOf checkpointCount checkpointOf isSend isUnlogged isLogged isReceive field section
-    eventSection checkpointSection eventRecord checkpointRecord workerOf workersOf lengthFault formFault sizeFault headerFault limitFault outside
-    sectionFault entryFault someEntry entriesRefusal layoutRefusal kindFault peerFault sendFault fieldFault stampFault sendOf sourceFault orderFault
+    eventSection checkpointSection eventRecord marksWithdrawn withoutMark checkpointRecord workerOf workersOf lengthFault formFault sizeFault
+    headerFault limitFault outside sectionFault entryFault someEntry entriesRefusal layoutRefusal kindFault peerFault sendFault fieldFault stampFault sendOf sourceFault orderFault
     anyFault eventFault checkpointFault recordFault recordCount workerFault someRecord eventsRefusal recordsRefusal repeatFault contentRefusal orElse logRefusal isForm receivesOnce
 tube-accepted = refl

@@ -1,5 +1,6 @@
 -- The tube log of document 01: 212 bytes, packed.
 -- Assumes nothing.
+use mathlib.Core.Bool.{false}
 use mathlib.Core.List.{List, [], _∷_}
 use Prim.Native.Nat.{ℕ}
 use Rattle.log.specs.declared.Kind.the-variants.{Send, Unlogged}
@@ -37,20 +38,20 @@ tubeLog =
             events =
                 record { kind = Unlogged; peer = 2; spare = 0; send = 1; stamp = 2 } ∷ record { kind = Unlogged; peer = 1; spare = 0; send = 3; stamp = 5 } ∷
                 record { kind = Send; peer = 1; spare = 0; send = 0; stamp = 6 } ∷ [];
-            checkpoints = record { index = 1; identifier = 1 } ∷ [];
+            checkpoints = record { index = 1; identifier = 1; withdrawn = false } ∷ [];
           } ∷
           record {
             role = 1;
             events =
                 record { kind = Send; peer = 2; spare = 0; send = 0; stamp = 1 } ∷ record { kind = Unlogged; peer = 2; spare = 0; send = 2; stamp = 3 } ∷
                 record { kind = Send; peer = 0; spare = 0; send = 0; stamp = 4 } ∷ record { kind = Unlogged; peer = 0; spare = 0; send = 3; stamp = 7 } ∷ [];
-            checkpoints = record { index = 1; identifier = 1 } ∷ [];
+            checkpoints = record { index = 1; identifier = 1; withdrawn = false } ∷ [];
           } ∷
           record {
             role = 0;
             events =
                 record { kind = Send; peer = 0; spare = 0; send = 0; stamp = 1 } ∷ record { kind = Send; peer = 1; spare = 0; send = 0; stamp = 2 } ∷
                 record { kind = Unlogged; peer = 1; spare = 0; send = 1; stamp = 3 } ∷ [];
-            checkpoints = record { index = 2; identifier = 1 } ∷ [];
+            checkpoints = record { index = 2; identifier = 1; withdrawn = false } ∷ [];
           } ∷ [];
     }

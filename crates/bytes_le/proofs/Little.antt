@@ -2,7 +2,7 @@
 use mathlib.Core.Path.{_≡_, refl, _∙_, ap}
 use mathlib.Core.List.{List, [], _∷_, _++_, append-nil, append-assoc}
 use Prim.Native.Nat.{ℕ, zero, suc, _+_, _*_, _^_, _/_, _%_, _<_, _≤_}
-use native.Mathlib.Nat.{add-zero, mul-assoc, pow-suc, pow-zero, mul-comm}
+use native.Mathlib.Nat.{add-zero, mul-assoc, pow-suc, pow-zero, mul-comm, mul-le-mul-left}
 use native.Mathlib.Numerals.{add-one}
 use native.Mathlib.Omega.{arith}
 use lib.ListN.{length, take, drop, getD, List·getD-append}
@@ -64,6 +64,17 @@ read-back width x front back h =
 -- .. where it stands last
 pub last-read : (width x : ℕ) (front : List ℕ) (at : ℕ) → length front ≡ at → x < 256 ^ width → le width (front ++ bytesOf width x) at ≡ x
 last-read width x front at e h = rw (append-nil, e) at (read-back width x front [] h)
+
+-- a number that is read of bytes is below 256 ^ width
+pub number-below : (width : ℕ) (s : List ℕ) (at : ℕ) → Bytes s → le width s at < 256 ^ width
+unfolding le
+number-below zero s at all = let one = pow-zero 256 in omega arith
+number-below (suc width) s at all =
+    let below = number-below width s at all in
+    let byte = all (at + width) in
+    let power = pow-suc 256 width in
+    let most : 256 ^ width * getD s (at + width) 0 ≤ 256 ^ width * 255 = mul-le-mul-left (256 ^ width) (omega arith) in
+    omega arith
 
 -- bytes that are read are written back
 pub read-bytes : (width : ℕ) (s : List ℕ) (at : ℕ) → Bytes s → at + width ≤ length s → bytesOf width (le width s at) ≡ take width (drop at s)

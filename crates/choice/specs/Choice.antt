@@ -1,4 +1,4 @@
--- Choices of checkpoints of document 01, "Plan".
+-- Choices of checkpoints of document 01, "Plan", "of checkpoints that aren't withdrawn" (document 02, Note 6).
 -- Assumes nothing.
 use mathlib.Core.Path.{_≡_}
 use mathlib.Core.Bool.{Bool, true, not, _&&_}
@@ -13,9 +13,9 @@ use Rattle.log.specs.Model.{Workers, workerCount, eventOf, checkpointCount, che
 use Rattle.lent.specs.Lent.{at}
 use Rattle.causality.specs.Cut.{Within}
 
--- the checkpoints that may be chosen: the initial state, number 0, and each recorded one
+-- the checkpoints that may be chosen: the initial state, number 0, and each recorded one that is not withdrawn
 unfoldable pub mayChoose : Workers → ℕ → ℕ → Bool
-mayChoose log w c = leb c (checkpointCount log w)
+mayChoose log w c = leb c (checkpointCount log w) && not (checkpointOf log w c .withdrawn)
 
 abbrev pub Offered : Workers → ℕ → Checkpoint → Type 0
 Offered log w p = (c : ℕ) × (mayChoose log w c ≡ true) × (checkpointOf log w c ≡ p)

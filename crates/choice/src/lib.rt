@@ -13,7 +13,11 @@ pub fn may_choose(log: &[u8], w: usize, c: u32) -> bool
     requires { ⌜ logRefusal (now log) ≡ 0 ⌝ }
     ensures answer { λ r. ⌜ r ≡ mayChoose (workersOf (now (log .entry))) w c ⌝ }
 {
-    c <= log::checkpoint_count(log, w)
+    if log::checkpoint_count(log, w) < c {
+        return false;
+    }
+    let point = log::checkpoint_at(log, w, c);
+    !point.withdrawn
 }
 
 // 0 for a receive without its data, and a number above every start for any other event.

@@ -1,3 +1,4 @@
+pub mod Marked
 pub mod Readable
 pub mod Read
 pub mod EventKinds

@@ -1,19 +1,23 @@
 -- The model of a log read off its bytes: what a reader of the header and of the records has to show.
 -- Assumes nothing.
 use mathlib.Core.Path.{_≡_, refl, sym, _∙_, ap}
+use mathlib.Core.Bool.{true}
 use mathlib.Core.Logic.{⊎-elim, _≢_}
 use mathlib.Core.List.{List, _∷_}
-use Prim.Native.Nat.{ℕ, suc, _+_, _-_, _*_, _<_, _≤_}
+use Prim.Native.Nat.{ℕ, zero, suc, _+_, _-_, _*_, _<_, _≤_}
 use Rattle.ranges.proofs.Order.{lt-or-le, eq-or-ne}
 use native.Mathlib.Omega.{arith}
 use borrow.Author.Tests.{le-leb, lt-leb}
 use lib.ListN.{length, drop, length-take, length-drop, List·getD-eq-default}
 use Rattle.ranges.proofs.Tabulate.{length-tabulate, getD-tabulate}
 use Rattle.log.specs.Model.{Workers, Worker, noEvent, noWorker, initial, workerCount, worker, roleOf, eventCount, eventOf, checkpointCount, checkpointOf}
+use Rattle.log.specs.Forms.{marksWithdrawn}
+use Rattle.log.specs.Mark.{topBit}
 use Rattle.log.specs.Limits.{maxWorkers, maxEvents, maxCheckpoints, maxRole}
 use Rattle.log.specs.Header.{layoutRefusal}
+use Rattle.log.proofs.Marked.{identifier-low}
 use Rattle.log.proofs.Readable.{Entry, readable}
-use Rattle.log.specs.Layout.{sizeField, headerOf, field, entryOrZero, eventCountField, eventOffsetField, checkpointCountField, checkpointOffsetField, roleField}
+use Rattle.log.specs.Layout.{formField, sizeField, headerOf, field, entryOrZero, eventCountField, eventOffsetField, checkpointCountField, checkpointOffsetField, roleField}
 use Rattle.log.specs.Layout.{eventSize, checkpointSize, section, eventStart, eventSection, checkpointSection, eventRecord, checkpointRecord, workerOf, workersOf}
 
 -- ---- every log
@@ -55,6 +59,13 @@ module _ (log : Workers) where
   unfolding roleOf
   role-past w h = ap (λ (v : Worker). v .role) (worker-past w h)
 
+-- an event or a checkpoint of a worker: the worker is one of the log's
+pub worker-within : (log : Workers) (w k : ℕ) → k < eventCount log w → w < workerCount log
+worker-within log w k h = ⊎-elim (λ l. l) (λ l. let z = count-past log w l in let no : ⊥ = omega arith in absurd no) (lt-or-le w (workerCount log))
+
+pub worker-within′ : (log : Workers) (w k : ℕ) → k < checkpointCount log w → w < workerCount log
+worker-within′ log w k h = ⊎-elim (λ l. l) (λ l. let z = checkpoints-past log w l in let no : ⊥ = omega arith in absurd no) (lt-or-le w (workerCount log))
+
 -- ---- the log that bytes hold
 module _ (s : List ℕ) where
   -- a section within the bytes has all of its own
@@ -80,16 +91,29 @@ module _ (s : List ℕ) where
 
   pub checkpoints-read : (w : ℕ) → w < sizeField s → checkpointCount (workersOf s) w ≡ field s w checkpointCountField
   unfolding checkpointCount workerOf
-  checkpoints-read w h = rw (worker-read w h) (length-tabulate (checkpointRecord (checkpointSection s w)) (field s w checkpointCountField))
+  checkpoints-read w h = rw (worker-read w h) (length-tabulate (checkpointRecord (formField s) (checkpointSection s w)) (field s w checkpointCountField))
 
   pub event-read : (w k : ℕ) → w < sizeField s → k < field s w eventCountField → eventOf (workersOf s) w (suc k) ≡ eventRecord (eventSection s w) k
   unfolding eventOf workerOf
   event-read w k h l = rw (worker-read w h) (getD-tabulate (eventRecord (eventSection s w)) (field s w eventCountField) k noEvent l)
 
   pub checkpoint-read : (w k : ℕ) → w < sizeField s → k < field s w checkpointCountField
-      → checkpointOf (workersOf s) w (suc k) ≡ checkpointRecord (checkpointSection s w) k
+      → checkpointOf (workersOf s) w (suc k) ≡ checkpointRecord (formField s) (checkpointSection s w) k
   unfolding checkpointOf workerOf
-  checkpoint-read w k h l = rw (worker-read w h) (getD-tabulate (checkpointRecord (checkpointSection s w)) (field s w checkpointCountField) k initial l)
+  checkpoint-read w k h l = rw (worker-read w h) (getD-tabulate (checkpointRecord (formField s) (checkpointSection s w)) (field s w checkpointCountField) k initial l)
+
+  -- in a form with the mark every identifier is below it
+  pub identifier-below : marksWithdrawn (formField s) ≡ true → (w c : ℕ) → checkpointOf (workersOf s) w c .identifier < topBit
+  unfolding checkpointRecord
+  identifier-below marks w zero = rw (checkpoint-initial (workersOf s) w) (omega arith)
+  identifier-below marks w (suc k) =
+      ⊎-elim
+      (λ l. rw (checkpoint-read w k (inside l) (rw (checkpoints-read w (inside l)) at l)) (identifier-low (formField s) _ marks))
+      (λ l. rw (checkpoint-past (workersOf s) w (suc k) (omega arith)) (omega arith))
+      (lt-or-le k (checkpointCount (workersOf s) w))
+    where
+      inside : k < checkpointCount (workersOf s) w → w < sizeField s
+      inside l = rw size-read at (worker-within′ (workersOf s) w k l)
 
   -- the numbers of the entry of worker w, which is one of the log's
   pub entry-count : (w : ℕ) → w < workerCount (workersOf s) → field s w eventCountField ≡ eventCount (workersOf s) w
@@ -98,13 +122,6 @@ module _ (s : List ℕ) where
   pub entry-start : (w : ℕ) → w < workerCount (workersOf s) → field s w eventOffsetField ≡ eventStart s w
   unfolding eventStart entryOrZero
   entry-start w h = let inside : w < sizeField s = rw size-read at h in rw (lt-leb (sizeField s) w inside)
-
--- an event or a checkpoint of a worker: the worker is one of the log's
-pub worker-within : (log : Workers) (w k : ℕ) → k < eventCount log w → w < workerCount log
-worker-within log w k h = ⊎-elim (λ l. l) (λ l. let z = count-past log w l in let no : ⊥ = omega arith in absurd no) (lt-or-le w (workerCount log))
-
-pub worker-within′ : (log : Workers) (w k : ℕ) → k < checkpointCount log w → w < workerCount log
-worker-within′ log w k h = ⊎-elim (λ l. l) (λ l. let z = checkpoints-past log w l in let no : ⊥ = omega arith in absurd no) (lt-or-le w (workerCount log))
 
 -- ---- a log that passes the tests 1 to 6
 module _ (s : List ℕ) (ok : layoutRefusal s ≡ 0) where
@@ -182,7 +199,7 @@ module _ (s : List ℕ) (ok : layoutRefusal s ≡ 0) where
     pub checkpoints-within : field s w checkpointOffsetField + checkpointSize * n ≤ length s
     checkpoints-within = rw (size, checkpoints-read s w checkpoint-inside) (readable s ok .entry w checkpoint-inside .checkpoints-end)
 
-    pub checkpoint-at : checkpointRecord (section s (field s w checkpointOffsetField) (checkpointSize * n)) (c - 1) ≡ checkpointOf (workersOf s) w c
+    pub checkpoint-at : checkpointRecord (formField s) (section s (field s w checkpointOffsetField) (checkpointSize * n)) (c - 1) ≡ checkpointOf (workersOf s) w c
     unfolding checkpointSection
     checkpoint-at =
         let counted = checkpoints-read s w checkpoint-inside in

@@ -10,6 +10,7 @@ use Rattle.bytes_le.specs.Little.{le}
 use Rattle.log.specs.declared.Event.{Event}
 use Rattle.log.specs.declared.Checkpoint.{Checkpoint}
 use Rattle.log.specs.Kind.{kindOf}
+use Rattle.log.specs.Mark.{hasMark, withoutMark}
 use Rattle.log.specs.Model.{Log, Workers, Worker}
 
 -- "Bytes 0-1: form. Bytes 2-3: worker count n. Bytes 4-7: length of the log in bytes"
@@ -86,16 +87,25 @@ eventRecord part k =
       stamp = le 4 part (eventSize * k + 8);
     }
 
--- "event index (4), checkpoint identifier (4)"
-unfoldable pub checkpointRecord : List ℕ → ℕ → Checkpoint
-checkpointRecord part k = record { index = le 4 part (checkpointSize * k); identifier = le 4 part (checkpointSize * k + 4) }
+-- the identifier word of record k, from 0, of a section
+abbrev pub identifierWord : List ℕ → ℕ → ℕ
+identifierWord part k = le 4 part (checkpointSize * k + 4)
+
+-- "event index (4), checkpoint identifier (4)": record k, from 0, of a section, in a log of this form
+unfoldable pub checkpointRecord : ℕ → List ℕ → ℕ → Checkpoint
+checkpointRecord form part k =
+    record {
+      index = le 4 part (checkpointSize * k);
+      identifier = withoutMark form (identifierWord part k);
+      withdrawn = hasMark form (identifierWord part k);
+    }
 
 unfoldable pub workerOf : List ℕ → ℕ → Worker
 workerOf s w =
     record {
       role = field s w roleField;
       events = tabulate (eventRecord (eventSection s w)) (field s w eventCountField);
-      checkpoints = tabulate (checkpointRecord (checkpointSection s w)) (field s w checkpointCountField);
+      checkpoints = tabulate (checkpointRecord (formField s) (checkpointSection s w)) (field s w checkpointCountField);
     }
 
 -- the workers that the bytes hold, and the log

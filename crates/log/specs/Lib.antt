@@ -1,6 +1,7 @@
 pub mod Limits
 pub mod Forms
 pub mod Kind
+pub mod Mark
 pub mod Model
 pub mod Layout
 pub mod Header

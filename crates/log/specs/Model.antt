@@ -1,7 +1,7 @@
 -- A log as a value, with nothing of bytes or offsets: two logs of the same content are equal. `Event` and `Checkpoint` are the
 -- structs of src/lib.rt.
 -- Assumes nothing.
-use mathlib.Core.Bool.{Bool, cond, _||_}
+use mathlib.Core.Bool.{Bool, false, cond, _||_}
 use mathlib.Core.List.{List, [], _∷_}
 use Prim.Native.Nat.{ℕ}
 use lib.ListN.{length, getD}
@@ -28,9 +28,9 @@ pub record Log : Type 0 where
 abbrev pub noEvent : Event
 noEvent = record { kind = Rest; peer = 0; spare = 0; send = 0; stamp = 0 }
 
--- "The initial state is always a checkpoint, index 0, identifier 0, and isn't recorded"
+-- "The initial state is always a checkpoint, index 0, identifier 0, and isn't recorded"; "The initial state can't be withdrawn"
 abbrev pub initial : Checkpoint
-initial = record { index = 0; identifier = 0 }
+initial = record { index = 0; identifier = 0; withdrawn = false }
 
 abbrev pub noWorker : Worker
 noWorker = record { role = 0; events = []; checkpoints = [] }

@@ -3,14 +3,15 @@
 ghost use mathlib.Core.Path.{_≡_};
 ghost use Prim.Native.Nat.{_+_, _*_, _<_, _≤_};
 ghost use lib.ListN.{length, getD};
-ghost use Rattle.log.specs.Forms.{receivesOnce};
+ghost use Rattle.log.specs.Forms.{marksWithdrawn, receivesOnce};
 ghost use Rattle.log.specs.Limits.{maxWorkers, maxEvents, maxCheckpoints, maxRole};
 ghost use Rattle.log.specs.Kind.{column, recordTable};
-ghost use Rattle.log.specs.Model.{noEvent, workerCount, eventCount, eventOf, checkpointCount, checkpointOf, roleOf, isSend, isUnlogged, isReceive, received, unloggedSend};
+ghost use Rattle.log.specs.Mark.{hasMark, withoutMark};
+ghost use Rattle.log.specs.Model.{noEvent, initial, workerCount, eventCount, eventOf, checkpointCount, checkpointOf, roleOf, isSend, isUnlogged, isReceive, received, unloggedSend};
 ghost use Rattle.log.specs.Layout.{formField, sizeField, lengthField, headerOf, field, entryOrZero, section, eventStart, eventSection, checkpointSection, kindByte, eventRecord, checkpointRecord, workersOf};
 ghost use Rattle.log.specs.Header.{formFault, limitFault, outside, sectionFault, entryFault, someEntry, entriesRefusal, layoutRefusal};
 
-// The forms of a log. In the second one a send is received at most once.
+// The forms of a log. In the second one a send is received at most once, and a checkpoint may be marked as withdrawn.
 const FIRST_FORM: u32 = 1;
 
 const SECOND_FORM: u32 = 2;
@@ -44,6 +45,9 @@ const EVENT_SIZE: usize = 12;
 
 const CHECKPOINT_SIZE: usize = 8;
 
+// The top bit of an identifier word, the mark of a withdrawn checkpoint.
+const MARK: u32 = 2147483648;
+
 // The kind of an event: a case for each kind of the record table, a send, a receive without its data logged and one with it, and one for
 // all the rest.
 pub enum Kind {
@@ -62,10 +66,11 @@ pub struct Event {
     pub stamp: u32,
 }
 
-// The state of a worker after `index` events.
+// The state of a worker after `index` events. A withdrawn one has its record alone.
 pub struct Checkpoint {
     pub index: u32,
     pub identifier: u32,
+    pub withdrawn: bool,
 }
 
 // The form, the worker count and the length that the header gives.
@@ -248,14 +253,44 @@ fn event_record(part: &[u8], k: usize) -> Event
     }
 }
 
-fn checkpoint_record(part: &[u8], k: usize) -> Checkpoint
+// Whether the identifier words of a log of this form have a mark.
+fn marks_withdrawn(form: u32) -> bool
+    ensures answer { λ r. ⌜ r ≡ marksWithdrawn form ⌝ }
+{
+    form == SECOND_FORM
+}
+
+// Whether an identifier word of a log of this form has the mark.
+fn has_mark(form: u32, word: u32) -> bool
+    ensures answer { λ r. ⌜ r ≡ hasMark form word ⌝ }
+{
+    if marks_withdrawn(form) {
+        return MARK <= word;
+    }
+    false
+}
+
+// The identifier that such a word has.
+fn without_mark(form: u32, word: u32) -> u32
+    ensures answer { λ r. ⌜ r ≡ withoutMark form word ⌝ }
+{
+    if marks_withdrawn(form) {
+        return word % MARK;
+    }
+    word
+}
+
+// Record k, from 0, of a section of checkpoints of a log of this form.
+fn checkpoint_record(form: u32, part: &[u8], k: usize) -> Checkpoint
     requires { ⌜ 8 * k + 8 ≤ length (now part) ⌝ }
-    ensures answer { λ r. ⌜ r ≡ checkpointRecord (now (part .entry)) k ⌝ }
+    ensures answer { λ r. ⌜ r ≡ checkpointRecord form (now (part .entry)) k ⌝ }
 {
     let at = CHECKPOINT_SIZE * k;
+    let word = bytes_le::read4(part, at + 4);
     Checkpoint {
         index: bytes_le::read4(part, at),
-        identifier: bytes_le::read4(part, at + 4),
+        identifier: without_mark(form, word),
+        withdrawn: has_mark(form, word),
     }
 }
 
@@ -305,10 +340,14 @@ pub fn event_in(log: &[u8], start: usize, count: usize, k: usize) -> Event
 }
 
 fn checkpoint_in(log: &[u8], start: usize, count: usize, k: usize) -> Checkpoint
-    requires { ⌜ (start + 8 * count ≤ length (now log)) × (k < count) ⌝ }
-    ensures answer { λ r. ⌜ r ≡ checkpointRecord (section (now (log .entry)) start (8 * count)) k ⌝ }
+    requires { ⌜ (8 ≤ length (now log)) × (start + 8 * count ≤ length (now log)) × (k < count) ⌝ }
+    ensures answer { λ r. ⌜ r ≡ checkpointRecord (formField (now (log .entry))) (section (now (log .entry)) start (8 * count)) k ⌝ }
 {
-    checkpoint_record(section_part(log, start, count, CHECKPOINT_SIZE), k)
+    checkpoint_record(
+        form_field(log),
+        section_part(log, start, count, CHECKPOINT_SIZE),
+        k,
+    )
 }
 
 // Whether the log is of the form in which a send is received at most once.
@@ -438,6 +477,17 @@ pub fn event_at(log: &[u8], w: usize, x: u32) -> Event
     worker_event(log, w, x)
 }
 
+// The initial state.
+fn initial() -> Checkpoint
+    ensures answer { λ r. ⌜ r ≡ initial ⌝ }
+{
+    Checkpoint {
+        index: 0,
+        identifier: 0,
+        withdrawn: false,
+    }
+}
+
 // Checkpoint c of worker w: 0 is the initial state, which stands past the last recorded one too.
 pub fn checkpoint_at(log: &[u8], w: usize, c: u32) -> Checkpoint
     requires { ⌜ layoutRefusal (now log) ≡ 0 ⌝ }
@@ -445,16 +495,10 @@ pub fn checkpoint_at(log: &[u8], w: usize, c: u32) -> Checkpoint
 {
     let count = checkpoint_count(log, w);
     if c == 0 {
-        return Checkpoint {
-            index: 0,
-            identifier: 0,
-        };
+        return initial();
     }
     if count < c {
-        return Checkpoint {
-            index: 0,
-            identifier: 0,
-        };
+        return initial();
     }
     let start = entry(log, w, CHECKPOINT_OFFSET_FIELD);
     checkpoint_in(log, start as usize, count as usize, (c - 1) as usize)

@@ -133,7 +133,7 @@ module _ (s : List ℕ) (p : Packable s) where
 
     same-worker : workerOf file w ≡ workerOf s w
     unfolding workerOf
-    same-worker = rw (role-same, count-same, checkpoints-same, same-events, same-checkpoints)
+    same-worker = rw (same-form, role-same, count-same, checkpoints-same, same-events, same-checkpoints)
 
   same-workers : workersOf file ≡ workersOf s
   unfolding workersOf
@@ -233,7 +233,7 @@ module _ (s t : List ℕ) (p : Packable s) (q : Packable t) (a : Agree s t) wher
       let recorded′ = checkpoints-read t w h′ in
       let count : field s w eventCountField ≡ field t w eventCountField = omega arith in
       let count′ : field s w checkpointCountField ≡ field t w checkpointCountField = omega arith in
-      rw (a .roles w h, count, count′, a .eventRecords w h, a .checkpointRecords w h)
+      rw (a .form, a .roles w h, count, count′, a .eventRecords w h, a .checkpointRecords w h)
 
   agreed-log : logOf s ≡ logOf t
   unfolding workersOf

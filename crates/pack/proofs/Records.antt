@@ -11,14 +11,15 @@ use lib.Seq.{take-add, drop-drop, take-all, getD-take, getD-drop}
 use Rattle.ranges.specs.Fold.{joinBelow}
 use Rattle.ranges.proofs.Order.{lt-or-le}
 use Rattle.bytes_le.specs.Little.{le, bytesOf, Bytes}
-use Rattle.bytes_le.proofs.Little.{read-bytes}
+use Rattle.bytes_le.proofs.Little.{read-bytes, number-below}
 use Rattle.log.specs.declared.Kind.the-variants.{Rest}
 use Rattle.log.specs.Header.{layoutRefusal}
-use Rattle.log.specs.Layout.{sizeField, field, eventCountField, checkpointCountField, eventSize, checkpointSize, section, eventSection, checkpointSection, kindByte, eventRecord, checkpointRecord, workersOf}
+use Rattle.log.specs.Layout.{formField, sizeField, field, eventCountField, checkpointCountField, eventSize, checkpointSize, section, eventSection, checkpointSection, kindByte, eventRecord, identifierWord, checkpointRecord, workersOf}
 use Rattle.log.specs.Model.{workerCount, eventCount, checkpointCount}
 use Rattle.log.proofs.Readable.{readable}
 use Rattle.log.proofs.Read.{section-length, size-read, count-read, checkpoints-read, event-read, checkpoint-read}
 use Rattle.log.proofs.EventKinds.{kind-table}
+use Rattle.log.proofs.Marked.{word-back}
 use Rattle.pack.specs.Inner.Room.{KnownKinds}
 use Rattle.pack.specs.Packed.{eventBytes, checkpointBytes, eventAt, checkpointAt, sectionsOf, sectionsSize}
 
@@ -60,11 +61,13 @@ module _ (s : List ℕ) where
       rw (kind-table .back (kindByte s k) known, number all 1 at (omega arith), number all 1 (at + 1) (omega arith), number all 2 (at + 2) (omega arith), number all 4 (at + 4) (omega arith), number all 4 (at + 8) (omega arith))
       (rw (section-join at 1 1, section-join at 2 2, section-join at 4 4) (section-join at 8 4))
 
-  checkpoint-bytes : Bytes s → (k : ℕ) → checkpointSize * k + checkpointSize ≤ length s → checkpointBytes (checkpointRecord s k) ≡ section s (checkpointSize * k) checkpointSize
+  checkpoint-bytes : Bytes s → (form k : ℕ) → checkpointSize * k + checkpointSize ≤ length s
+      → checkpointBytes (checkpointRecord form s k) ≡ section s (checkpointSize * k) checkpointSize
   unfolding checkpointBytes checkpointRecord
-  checkpoint-bytes all k h =
+  checkpoint-bytes all form k h =
       let at = checkpointSize * k in
-      rw (number all 4 at (omega arith), number all 4 (at + 4) (omega arith)) (section-join at 4 4)
+      rw (word-back form (identifierWord s k) (le 4 s at) (number-below 4 s (at + 4) all), number all 4 at (omega arith), number all 4 (at + 4) (omega arith))
+      (section-join at 4 4)
 
 -- ---- the sections of worker w of a log that passes the tests 1 to 6
 module _ (s : List ℕ) (ok : layoutRefusal s ≡ 0) (w : ℕ) (h : w < workerCount (workersOf s)) where
@@ -85,7 +88,7 @@ module _ (s : List ℕ) (ok : layoutRefusal s ≡ 0) (w : ℕ) (h : w < workerCo
     checkpoints-each k l =
         let counted : k < field s w checkpointCountField = rw (checkpoints-read s w inside) at l in
         let long = checkpoints-long in
-        rw (add-one, checkpoint-read s w k inside counted) (checkpoint-bytes (checkpointSection s w) (section-bytes s all _ _) k (omega arith))
+        rw (add-one, checkpoint-read s w k inside counted) (checkpoint-bytes (checkpointSection s w) (section-bytes s all _ _) (formField s) k (omega arith))
 
     pub checkpoints-bytes : joinBelow (checkpointAt (workersOf s) w) (checkpointCount (workersOf s) w) ≡ checkpointSection s w
     checkpoints-bytes = records-all (checkpointSection s w) (checkpointAt (workersOf s) w) checkpointSize (checkpointCount (workersOf s) w) checkpoints-long checkpoints-each

@@ -8,6 +8,7 @@ use Rattle.bytes_le.specs.Little.{bytesOf}
 use Rattle.log.specs.declared.Event.{Event}
 use Rattle.log.specs.declared.Checkpoint.{Checkpoint}
 use Rattle.log.specs.Kind.{kindNumber}
+use Rattle.log.specs.Mark.{withMark}
 use Rattle.log.specs.Model.{Log, Workers, workerCount, roleOf, eventCount, eventOf, checkpointCount, checkpointOf}
 use Rattle.log.specs.Layout.{headerOf, eventSize, checkpointSize}
 
@@ -15,9 +16,9 @@ use Rattle.log.specs.Layout.{headerOf, eventSize, checkpointSize}
 unfoldable pub eventBytes : Event → List ℕ
 eventBytes e = bytesOf 1 (kindNumber (e .kind)) ++ bytesOf 1 (e .peer) ++ bytesOf 2 (e .spare) ++ bytesOf 4 (e .send) ++ bytesOf 4 (e .stamp)
 
--- "event index (4), checkpoint identifier (4)"
+-- "event index (4), checkpoint identifier (4)", with the mark of a withdrawn one
 unfoldable pub checkpointBytes : Checkpoint → List ℕ
-checkpointBytes c = bytesOf 4 (c .index) ++ bytesOf 4 (c .identifier)
+checkpointBytes c = bytesOf 4 (c .index) ++ bytesOf 4 (withMark c)
 
 -- number j of a list, in 32 bits
 unfoldable pub numberAt : List ℕ → ℕ → List ℕ

@@ -1,11 +1,14 @@
 -- The table T1 to T10 of the tube log, computed from its 212 bytes.
 -- Assumes nothing.
 use mathlib.Core.Path.{_≡_, refl}
+use mathlib.Core.Bool.{false}
 use mathlib.Core.List.{[], _∷_}
 use lib.ListN.{set}
 use Rattle.ranges.specs.Fold.{anyBelow, maxBelow, sumBelow, firstBelow, lastBelow, tabulate, sweep}
 use Rattle.bytes_le.specs.Little.{le}
 use Rattle.log.specs.declared.Kind.the-variants.{Send, Unlogged, Logged}
+use Rattle.log.specs.Forms.{marksWithdrawn}
+use Rattle.log.specs.Mark.{hasMark, withoutMark}
 use Rattle.log.specs.Model.{Workers, workerCount, worker, roleOf, eventCount, eventOf, checkpointCount, checkpointOf, isSend, isUnlogged, isLogged, isReceive}
 use Rattle.log.specs.Layout.{field, section, eventSection, checkpointSection, eventRecord, checkpointRecord, workerOf, workersOf}
 use Rattle.accept.specs.Tube.{tube, tubeLog}
@@ -31,11 +34,11 @@ logged =
           record { kind = Logged; peer = 2; spare = 0; send = 2; stamp = 3 } ∷
           record { kind = Send; peer = 0; spare = 0; send = 0; stamp = 4 } ∷
           record { kind = Unlogged; peer = 0; spare = 0; send = 3; stamp = 7 } ∷ [];
-      checkpoints = record { index = 1; identifier = 1 } ∷ [];
+      checkpoints = record { index = 1; identifier = 1; withdrawn = false } ∷ [];
     })
 
 logged-model : workersOf tubeLogged ≡ logged
-unfolding le tabulate field section eventSection checkpointSection eventRecord checkpointRecord workerOf workersOf
+unfolding le tabulate field section eventSection checkpointSection eventRecord marksWithdrawn hasMark withoutMark checkpointRecord workerOf workersOf
 logged-model = refl
 
 computed : TubeTable (tubeLog .workers) logged

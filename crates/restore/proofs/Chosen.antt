@@ -1,7 +1,7 @@
 -- Starts that are indices of checkpoints are the starts of a choice, and the plan's identifier is that of the last such checkpoint.
 -- Assumes nothing.
 use mathlib.Core.Path.{_≡_, sym, _∙_, ap}
-use mathlib.Core.Bool.{true}
+use mathlib.Core.Bool.{true, false}
 use mathlib.Core.Logic.{⊎-elim}
 use mathlib.Core.List.{List}
 use Prim.Native.Nat.{ℕ, _+_, _<_, _≤_}
@@ -20,7 +20,7 @@ use Rattle.lent.specs.Lent.{at}
 use Rattle.causality.specs.Cut.{Within}
 use Rattle.choice.specs.Choice.{mayChoose, IsChoice, startsOf, Startable}
 use Rattle.restore.specs.Plan.{standsAt, identifierOf, identifierAt, planAt}
-use Rattle.choice.proofs.Choosable.{may-below}
+use Rattle.choice.proofs.Choosable.{may-below, may-kept}
 use Rattle.choice.proofs.Startable.{starts-at, same-starts}
 
 -- x is the index of a checkpoint of worker w that may be chosen
@@ -50,8 +50,8 @@ choice-starts log cut choice is startable =
       startable = startable;
     }
 
--- "Of recorded checkpoints with that index the last one listed gives the identifier; if none is recorded, 0"
-pub identifier-last : (log : Workers) (w x : ℕ) → IndexOffered log w x → (c : ℕ) × IsLastAt log w (record { index = x; identifier = identifierAt log w x }) c
+-- the identifier is that of the last checkpoint with that index that may be chosen
+pub identifier-last : (log : Workers) (w x : ℕ) → IndexOffered log w x → (c : ℕ) × IsLastAt log w (record { index = x; identifier = identifierAt log w x; withdrawn = false }) c
 unfolding identifierAt identifierOf standsAt
 identifier-last log w x (k, may, index) =
     let stands : (c : ℕ) → mayChoose log w c ≡ true → checkpointOf log w c .index ≡ x → standsAt log w x c ≡ true =
@@ -60,11 +60,12 @@ identifier-last log w x (k, may, index) =
     let c = found .0 in
     let first = mayChoose log w c in
     let second = eqb (checkpointOf log w c .index) x in
-    let i = eqb-true (checkpointOf log w c .index) x (and-true-right first second (found .1 .holds)) in (
+    let i = eqb-true (checkpointOf log w c .index) x (and-true-right first second (found .1 .holds)) in
+    let m = and-true-left first second (found .1 .holds) in (
       c,
       record {
-        may = and-true-left first second (found .1 .holds);
-        same = λ j. record { index = i j; identifier = sym (found .2) j };
+        may = m;
+        same = λ j. record { index = i j; identifier = sym (found .2) j; withdrawn = may-kept log w c m j };
         after = λ d m e. found .1 .after d (may-below log w d m) (stands d m e);
       },
     )

@@ -1,6 +1,6 @@
 -- The plan of document 01, computed: from the cut, each worker is rolled back to the latest checkpoint that loses no send, until nothing moves.
 -- Assumes nothing.
-use mathlib.Core.Bool.{Bool, not, cond, _&&_}
+use mathlib.Core.Bool.{Bool, false, not, cond, _&&_}
 use mathlib.Core.List.{List}
 use Prim.Native.Nat.{ℕ, _+_, _*_, _/_, _%_}
 use lib.Dec.{eqb, leb}
@@ -39,7 +39,8 @@ rolledBack log cut starts = tabulate (rolledBackAt log cut starts) (workerCount 
 unfoldable pub planStarts : Workers → List ℕ → List ℕ
 planStarts log cut = sweep (λ k starts. rolledBack log cut starts) (sumBelow (at cut) (workerCount log)) cut
 
--- "Of recorded checkpoints with that index the last one listed gives the identifier; if none is recorded, 0"
+-- "Of recorded checkpoints with that index the last one listed gives the identifier; if none is recorded, 0", and of these "the last one
+-- listed with that index and not withdrawn does, else 0": the initial state, which has index 0, has identifier 0
 unfoldable pub standsAt : Workers → ℕ → ℕ → ℕ → Bool
 standsAt log w x c = mayChoose log w c && eqb (checkpointOf log w c .index) x
 
@@ -50,7 +51,7 @@ unfoldable pub identifierAt : Workers → ℕ → ℕ → ℕ
 identifierAt log w x = lastBelow (standsAt log w x) (identifierOf log w) (checkpointCount log w + 1)
 
 unfoldable pub planAt : Workers → List ℕ → ℕ → Checkpoint
-planAt log starts w = record { index = at starts w; identifier = identifierAt log w (at starts w) }
+planAt log starts w = record { index = at starts w; identifier = identifierAt log w (at starts w); withdrawn = false }
 
 -- the plan as a choice
 unfoldable pub planChoice : Workers → List ℕ → List Checkpoint

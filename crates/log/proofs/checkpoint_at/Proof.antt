@@ -1,16 +1,17 @@
 -- `log::checkpoint_at` meets its contract. Assumes nothing.
 use mathlib.Core.Path.{sym, _∙_}
 use native.Mathlib.Omega.{arith}
+use Rattle.log.proofs.Readable.{readable}
 use Rattle.log.proofs.Read.{checkpoint-initial, checkpoint-past, checkpoint-entry, checkpoints-within, checkpoint-at}
 use borrow.Author.Needs.{needs}
 use Rattle.log.proofs.checkpoint_at.Statement.{statement}
 use Rattle.log.proofs.checkpoint_at.Tie as tie
 
 returns : tie.Need-returns
-returns c = sym (rw (c .if1 .taken) (checkpoint-initial _ _))
+returns c = c .initial .ensures ∙ sym (rw (c .before .if1 .taken) (checkpoint-initial _ _))
 
 returns-2 : tie.Need-returns-2
-returns-2 c = sym (checkpoint-past _ _ _ (rw (c .before .before .checkpoint-count .ensures .0) at (c .if2 .taken)))
+returns-2 c = c .initial2 .ensures ∙ sym (checkpoint-past _ _ _ (rw (c .before .before .before .checkpoint-count .ensures .0) at (c .before .if2 .taken)))
 
 entry-requires : tie.Need-entry-requires
 entry-requires c κs =
@@ -23,7 +24,8 @@ checkpoint-in-requires : tie.Need-checkpoint-in-requires
 checkpoint-in-requires c κs =
     let some = c .before .before .if1 .left in
     let size = c .before .before .before .checkpoint-count .ensures .0 in
-    (rw (c .entry .ensures) (checkpoints-within _ (c .before .before .before .before .before .pre) _ _ _ some size (c .before .if2 .left)), omega arith)
+    let layout = c .before .before .before .before .before .pre in
+    (readable _ layout .long, rw (c .entry .ensures) (checkpoints-within _ layout _ _ _ some size (c .before .if2 .left)), omega arith)
 
 returns-3 : tie.Need-returns-3
 returns-3 c =
@@ -33,4 +35,4 @@ returns-3 c =
 
 pub checkpoint-at-spec : {M : Type 1} → statement M
 checkpoint-at-spec =
-    tie.close (tie.spec (λ c κs. search needs) returns returns-2 entry-requires (λ c. search needs) (λ c. search needs) (λ c. search needs) cast-checkpoint-in-3 checkpoint-in-requires returns-3)
+    tie.close (tie.spec (λ c κs. search needs) (λ c κs. search needs) returns (λ c κs. search needs) returns-2 entry-requires (λ c. search needs) (λ c. search needs) (λ c. search needs) cast-checkpoint-in-3 checkpoint-in-requires returns-3)

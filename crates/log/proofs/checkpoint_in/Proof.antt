@@ -6,10 +6,10 @@ use Rattle.log.proofs.checkpoint_in.Statement.{statement}
 use Rattle.log.proofs.checkpoint_in.Tie as tie
 
 checkpoint-record-requires : tie.Need-checkpoint-record-requires
-checkpoint-record-requires c κs = rw (c .section-part .ensures, section-length _ _ _ (c .before .before .pre .0)) (omega arith)
+checkpoint-record-requires c κs = rw (c .section-part .ensures, section-length _ _ _ (c .before .before .before .pre .1)) (omega arith)
 
 returns : tie.Need-returns
-returns c = rw (c .before .section-part .ensures) at (c .checkpoint-record .ensures)
+returns c = rw (c .before .before .form-field .ensures, c .before .section-part .ensures) at (c .checkpoint-record .ensures)
 
 pub checkpoint-in-spec : {M : Type 1} → statement M
-checkpoint-in-spec = tie.close (tie.spec (λ c κs. search needs) checkpoint-record-requires returns)
+checkpoint-in-spec = tie.close (tie.spec (λ c κs. search needs) (λ c κs. search needs) checkpoint-record-requires returns)

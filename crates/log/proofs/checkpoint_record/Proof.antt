@@ -13,4 +13,4 @@ returns c = cc
 
 pub checkpoint-record-spec : {M : Type 1} → statement M
 checkpoint-record-spec =
-    tie.close (tie.spec (λ c. search needs) (λ c κs. search needs) (λ c. search needs) read4-requires-2 returns)
+    tie.close (tie.spec (λ c. search needs) (λ c. search needs) (λ c κs. search needs) read4-requires-2 (λ c κs. search needs) (λ c κs. search needs) returns)

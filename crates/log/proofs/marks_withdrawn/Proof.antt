@@ -1,0 +1,12 @@
+-- `log::marks_withdrawn` meets its contract. Assumes nothing.
+use mathlib.Core.Path.{refl}
+use Rattle.log.specs.Forms.{marksWithdrawn}
+use Rattle.log.proofs.marks_withdrawn.Statement.{statement}
+use Rattle.log.proofs.marks_withdrawn.Tie as tie
+
+returns : tie.Need-returns
+unfolding marksWithdrawn
+returns c = refl
+
+pub marks-withdrawn-spec : {M : Type 1} → statement M
+marks-withdrawn-spec = tie.close (tie.spec returns)
