@@ -1,2 +1,3 @@
 pub mod CoveringSet
+pub mod Withdrawn
 pub mod SetNumber

@@ -1,2 +1,3 @@
 pub mod Covering
+pub mod Withdrawn
 pub mod Inner

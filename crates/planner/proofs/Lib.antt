@@ -1,6 +1,7 @@
 pub mod TubeTable
 pub mod Answered
 pub mod Covered
+pub mod Planned
 pub mod StepWords
 pub mod Restored
 pub mod SameAnswers

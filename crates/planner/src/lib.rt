@@ -22,8 +22,10 @@ ghost use Rattle.upper_line.specs.Upper.{upperLine};
 ghost use Rattle.causality.specs.Refusals.{lineRefusal, searchRefusal, testRefusal};
 ghost use Rattle.lower_cut.specs.Calls.{foundCut, cutTotals};
 ghost use Rattle.covering.specs.Covering.{coveringSet, CoversWhenStartable};
+ghost use Rattle.covering.specs.Withdrawn.{CoversNoneWithdrawn};
 ghost use Rattle.restore.specs.Calls.{foundPlan, planTotals};
 ghost use Rattle.restore.specs.Floor.{Floor};
+ghost use Rattle.restore.specs.Shown.{Shown};
 ghost use Rattle.replay.specs.Machine.{listed, answerWord, stepWords};
 ghost use Rattle.replay.specs.Calls.{stepAnswer, stepAfter, stepsRefusal, restoreRefusal, machineRun, machineAfter};
 ghost use Rattle.replay.specs.Demand3.{Demand3};
@@ -119,6 +121,7 @@ pub extern "C" fn plan(
     ensures totals { λ r. ⌜ now (totals .exit) ≡ unlessRefused r (planTotals (foundPlan (workersOf (now (log .entry))) worker event)) (now (totals .entry)) ⌝ }
     ensures kept { λ r. ⌜ KeptIfRefused r (now (scratch .entry)) (now (scratch .exit)) ⌝ }
     ensures floor { λ r. ⌜ (r ≡ 0 → Floor (workersOf (now (log .entry))) worker event (take (3 * workerCount (workersOf (now (log .entry)))) (now (words .exit)))) ⌝ }
+    ensures shown { λ r. ⌜ (r ≡ 0 → Shown (logOf (now (log .entry))) (take (3 * workerCount (workersOf (now (log .entry)))) (now (words .exit)))) ⌝ }
 {
     let others = lent::words_refusal(totals.len(), 4);
     let found = restore::plan(log, worker, event, others, words, scratch);
@@ -170,6 +173,7 @@ pub extern "C" fn covers(log: &[u8], identifier: u32, answer: &mut [u32]) -> u32
     ensures answer { λ r. ⌜ r ≡ orElse (logRefusal (now (log .entry))) (wordsRefusal (length (now (answer .entry))) 1) ⌝ }
     ensures word { λ r. ⌜ now (answer .exit) ≡ unlessRefused r (wordOf (coveringSet (workersOf (now (log .entry))) identifier) ∷ []) (now (answer .entry)) ⌝ }
     ensures exactly { λ r. ⌜ (r ≡ 0 → CoversWhenStartable (workersOf (now (log .entry))) identifier (at (now (answer .exit)) 0)) ⌝ }
+    ensures withdrawn { λ r. ⌜ (r ≡ 0 → CoversNoneWithdrawn (logOf (now (log .entry))) identifier (at (now (answer .exit)) 0)) ⌝ }
 {
     let others = lent::words_refusal(answer.len(), 1);
     write_answer(covering::covers(log, identifier, others), answer)

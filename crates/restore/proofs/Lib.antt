@@ -7,3 +7,4 @@ pub mod Begun
 pub mod Finished
 pub mod Written
 pub mod Floor
+pub mod Shown

@@ -1,9 +1,8 @@
 -- `planner::covers` meets its contract. Assumes nothing.
 use mathlib.Core.Path.{sym, _∙_}
 use Rattle.lent.proofs.Lent.{or-else-zero, words-ok}
-use Rattle.accept.proofs.Accepted.{well-formed}
 use Rattle.planner.proofs.Answered.{answered}
-use Rattle.planner.proofs.Covered.{covered}
+use Rattle.planner.proofs.Covered.{covered, covered-none}
 use borrow.Author.Needs.{needs}
 use Rattle.planner.proofs.covers.Statement.{statement}
 use Rattle.planner.proofs.covers.Tie as tie
@@ -19,9 +18,10 @@ returns c =
       written .0 ∙ rw (← c .before .before .before .before .before .words-refusal .ensures) (tested .0),
       (
         rw (written .0) (written .1 ∙ rw (tested .1) (answered _ _ _)),
-        (λ none.
-            let zero = sym (written .0) ∙ none in
-            covered _ (well-formed _ (or-else-zero _ _ (sym (tested .0) ∙ zero) .0)) _ _ _ _ _ (written .1) (tested .1) zero),
+        (
+          (λ none. covered _ _ _ _ _ _ _ (tested .0) (written .1) (tested .1) (sym (written .0) ∙ none)),
+          λ none. covered-none _ _ _ _ _ _ _ (tested .0) (written .1) (tested .1) (sym (written .0) ∙ none),
+        ),
       ),
     )
 

@@ -3,6 +3,7 @@ use mathlib.Core.Path.{refl, sym, _∙_}
 use Rattle.lent.proofs.Lent.{words-ok, put-found, untouched}
 use Rattle.causality.proofs.Allowed.{search-ok}
 use Rattle.restore.specs.Calls.{planAnswer, planTotals}
+use Rattle.planner.proofs.Planned.{shown-left}
 use borrow.Author.Needs.{needs}
 use Rattle.planner.proofs.plan.Statement.{statement}
 use Rattle.planner.proofs.plan.Tie as tie
@@ -14,7 +15,7 @@ returns : tie.Need-returns
 returns c =
     let called = c .before .before .before .before .before .plan .ensures in (
       rw (← c .before .before .before .before .before .before .before .before .words-refusal .ensures) (called .0),
-      (called .1 .1 .0, (untouched _ _ _ (c .if1 .taken), (called .1 .1 .1 .0, λ none. absurd (c .if1 .taken none)))),
+      (called .1 .1 .0, (untouched _ _ _ (c .if1 .taken), (called .1 .1 .1 .0, ((λ none. absurd (c .if1 .taken none)), λ none. absurd (c .if1 .taken none))))),
     )
 
 write-plan-requires : tie.Need-write-plan-requires
@@ -30,9 +31,10 @@ unfolding planAnswer planTotals
 returns-2 c =
     let called = c .before .before .before .before .before .before .before .before .before .plan .ensures in
     let none = c .before .before .before .before .if1 .left in
-    let found = rw (none) at (called .1 .0) in (
+    let found = rw (none) at (called .1 .0) in
+    let words = rw (none) at (called .1 .1 .0) in (
       sym none ∙ rw (← c .before .before .before .before .before .before .before .before .before .before .before .before .words-refusal .ensures) (called .0),
-      (rw (none) at (called .1 .1 .0), (put-found planTotals _ _ _ _ found (c .before .before .write-plan .ensures), ((λ no. absurd (no refl)), λ _. called .1 .1 .1 .1 none))),
+      (words, (put-found planTotals _ _ _ _ found (c .before .before .write-plan .ensures), ((λ no. absurd (no refl)), ((λ _. called .1 .1 .1 .1 none), λ _. shown-left _ _ _ _ _ words)))),
     )
 
 pub plan-spec : {M : Type 1} → statement M

@@ -88,7 +88,7 @@ returns-2 c =
     let whole =
     restored _ ok _ _ (point .event) _ _ _ _ _ _ _ _ _
     (words ∙ sym (put 0 _ _ refl)) (totals ∙ sym (put 0 _ _ refl)) (positions ∙ sym (put 0 _ _ refl)) (steps ∙ sym (put 0 _ _ refl)) in
-    (sym none ∙ found, (words, (totals, ((λ no. absurd (no refl)), (positions, (steps, ((λ _. whole), λ _. planned .1 .1 .1 .1 zero)))))))
+    (sym none ∙ found, (words, (totals, ((λ no. absurd (no refl)), (positions, (steps, ((λ _. whole), λ _. planned .1 .1 .1 .1 .0 zero)))))))
 
 pub restore-and-replay-spec : {M : Type 1} → statement M
 restore-and-replay-spec =
