@@ -13,6 +13,7 @@ A log is described by its workers. Each worker has a role, events and checkpoint
     ("logged", peer, send, stamp)     the same, with its data logged
     ("raw", kind, peer, spare, peer_event, stamp)    any values
     (index, identifier)               a checkpoint
+    ("withdrawn", index, identifier)  one whose identifier word has the mark of a withdrawn checkpoint
 
 Everything else (the counts, the offsets, the length) follows from this, unless a caller of `build` gives another value.
 """
@@ -23,6 +24,9 @@ KINDS = {"send": 1, "receive": 2, "logged": 3}
 
 # The five numbers of a worker's entry, in their order.
 ENTRY = ["event count", "event offset", "checkpoint count", "checkpoint offset", "role"]
+
+# The mark of a withdrawn checkpoint in an identifier word.
+MARK = 2 ** 31
 
 # What stands in a gap between two sections: no record may be read from there.
 GAP = b"\xaa"
@@ -51,8 +55,13 @@ def event_record(event):
 
 def checkpoint_record(checkpoint):
     """The 8 bytes of a checkpoint."""
-    index, identifier = checkpoint
-    return struct.pack("<II", index, identifier)
+    index, identifier = checkpoint[-2:]
+    return struct.pack("<II", index, identifier + MARK * is_withdrawn(checkpoint))
+
+
+def is_withdrawn(checkpoint):
+    """Whether a checkpoint is described as withdrawn."""
+    return checkpoint[0] == "withdrawn"
 
 
 def section(worker, what):

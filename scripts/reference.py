@@ -1,9 +1,10 @@
 #!/usr/bin/env python3
-"""Document 01, and form 2, the packed logs and the covering test of document 02, written in Python from the definitions. The
-expected output of the stored cases comes from here.
+"""Document 01, and form 2, the packed logs, the covering test and the withdrawn checkpoints of document 02, written in Python
+from the definitions. The expected output of the stored cases comes from here.
 
-    scripts/reference.py --check    the values T1 to T10, and on random small logs the definitions against brute force and the
-                                    floor that covering sets give the starts (document 02, note 4)
+    scripts/reference.py --check    the values T1 to T10, and on random small logs the definitions against brute force, the
+                                    floor that covering sets give the starts (document 02, note 4), and logs with withdrawn
+                                    checkpoints (note 6) against the same logs without these records
 
 An event is named by its worker and its index, (w, x). A cut, a choice's starts and positions are lists of one number for
 each worker.
@@ -20,8 +21,10 @@ import logs
 
 SEND, UNLOGGED, LOGGED = 1, 2, 3
 
-# The forms of a log. In the first a send may be received twice, in the second it is received at most once.
-REPEATS, ONCE = FORMS = (1, 2)
+# The forms of a log. In the first a send may be received twice, and an identifier word is the identifier. In the second a send is
+# received at most once, and the top bit of an identifier word, MARK, marks a withdrawn checkpoint.
+FIRST_FORM, SECOND_FORM = FORMS = (1, 2)
+MARK = 2 ** 31
 
 # The largest worker count of a log, and its most bytes.
 MAX_WORKERS = 64
@@ -31,7 +34,7 @@ MAX_BYTES = 4194304
 UNITS = {0: (2, 3, 5), 1: (2, 4, 6), 2: (3, 8, 9), 3: (2, 5, 7)}
 
 Event = namedtuple("Event", "kind peer send stamp")
-Checkpoint = namedtuple("Checkpoint", "index identifier")
+Checkpoint = namedtuple("Checkpoint", "index identifier withdrawn")
 
 
 class Refused(Exception):
@@ -92,11 +95,11 @@ def read_anew(data):
         for w in range(n):
             for x in range(1, len(events[w]) + 1):
                 refuse_if(is_fault(events, w, x), number)
-    checkpoints = [read_checkpoints(data, entry) for entry in entries]
+    checkpoints = [read_checkpoints(data, form, entry) for entry in entries]
     for w in range(n):
         for c in range(len(checkpoints[w])):
             refuse_if(checkpoint_fault(events, checkpoints, w, c), 11)
-    refuse_if(form == ONCE and has_repeat(events), 24)
+    refuse_if(form == SECOND_FORM and has_repeat(events), 24)
 
     roles = [entry[4] for entry in entries]
     events = [[Event(kind, peer, send, stamp) for kind, peer, spare, send, stamp in section] for section in events]
@@ -107,8 +110,16 @@ def read_events(data, entry):
     return [struct.unpack_from("<BBHII", data, entry[1] + 12 * k) for k in range(entry[0])]
 
 
-def read_checkpoints(data, entry):
-    return [Checkpoint(*struct.unpack_from("<II", data, entry[3] + 8 * c)) for c in range(entry[2])]
+def read_checkpoints(data, form, entry):
+    return [checkpoint_of(form, *struct.unpack_from("<II", data, entry[3] + 8 * c)) for c in range(entry[2])]
+
+
+def checkpoint_of(form, index, word):
+    """In form 2 the top bit of the identifier word is the mark of a withdrawn checkpoint and the low 31 bits are the identifier; in
+    form 1 the word is the identifier."""
+    if form == SECOND_FORM:
+        return Checkpoint(index, word % MARK, word >= MARK)
+    return Checkpoint(index, word, False)
 
 
 def record_fault(events, w, x):
@@ -142,8 +153,8 @@ def order_fault(events, w, x):
 
 
 def checkpoint_fault(events, checkpoints, w, c):
-    """11: index over the event count or below the previous one; identifier 0 or not above the previous."""
-    index, identifier = checkpoints[w][c]
+    """11: index over the event count or below the previous one; identifier, without the mark, 0 or not above the previous."""
+    index, identifier, _ = checkpoints[w][c]
     if index > len(events[w]) or identifier == 0:
         return True
     if c == 0:
@@ -190,7 +201,7 @@ def packed(log):
         event_offset = header + len(body)
         body += b"".join(struct.pack("<BBHII", event.kind, event.peer, 0, event.send, event.stamp) for event in events)
         checkpoint_offset = header + len(body)
-        body += b"".join(struct.pack("<II", *checkpoint) for checkpoint in checkpoints)
+        body += b"".join(struct.pack("<II", c.index, c.identifier + MARK * c.withdrawn) for c in checkpoints)
         entries += struct.pack("<5I", len(events), event_offset, len(checkpoints), checkpoint_offset, role)
     return struct.pack("<HHI", log.form, log.n, header + len(body)) + entries + body
 
@@ -288,8 +299,8 @@ def upper_line(log, i, e):
 
 
 def offered(log, w):
-    """The checkpoints of a worker: the initial state and the recorded ones."""
-    return [Checkpoint(0, 0)] + log.checkpoints[w]
+    """The checkpoints of a worker that may be chosen: the initial state and the recorded ones that are not withdrawn."""
+    return [Checkpoint(0, 0, False)] + [c for c in log.checkpoints[w] if not c.withdrawn]
 
 
 def latest_index(log, w, limit):
@@ -326,8 +337,8 @@ def plan_starts(log, cut):
 
 
 def identifier_of(log, w, index):
-    """Of recorded checkpoints with that index the last one listed gives the identifier; if none is recorded, 0."""
-    return ([0] + [c.identifier for c in log.checkpoints[w] if c.index == index])[-1]
+    """The identifier of the last checkpoint listed with that index and not withdrawn, else 0."""
+    return ([0] + [c.identifier for c in log.checkpoints[w] if c.index == index and not c.withdrawn])[-1]
 
 
 def plan_words(log, cut, starts):
@@ -350,14 +361,16 @@ def units_of(log, cut, starts):
 
 
 def set_indices(log, identifier):
-    """The index of each worker's checkpoint with the identifier; fewer than n numbers where a worker lacks it."""
+    """The index of each worker's checkpoint with the identifier, none of them withdrawn; fewer than n numbers where a worker lacks
+    it."""
     return [c.index for w in range(log.n) for c in offered(log, w) if c.identifier == identifier]
 
 
 def covers(log, identifier):
-    """Whether the identifier covers: every worker has a checkpoint with it, and every receive after its worker's checkpoint, of a
-    send with index smaller than or equal to the sender's checkpoint index, is kind 3. For 0 the initial states are meant.
-    In the paper, section 5.2, a send at the sender's checkpoint itself is not counted; here it is (document 02, note 3)."""
+    """Whether the identifier covers: every worker has a checkpoint with it, none of them withdrawn, and every receive after its
+    worker's checkpoint, of a send with index smaller than or equal to the sender's checkpoint index, is kind 3. For 0 the initial
+    states are meant. In the paper, section 5.2, a send at the sender's checkpoint itself is not counted; here it is (document 02,
+    note 3)."""
     index = set_indices(log, identifier)
     if len(index) < log.n:
         return False
@@ -635,6 +648,59 @@ def check_checkpoints():
     expect("worker 1 lacks the identifier", covers(log, 5), False)
 
 
+# The checkpoints of a worker, and what index 0 then shows in form 2 and in form 1: the identifier of the last one that is not
+# withdrawn, else 0. In form 1 a word with the top bit is a large identifier; None where 11 then refuses the log.
+OF_INDEX_0 = (
+    ([("withdrawn", 0, 4)], 0, MARK + 4),
+    ([(0, 3), ("withdrawn", 0, 4)], 3, MARK + 4),
+    ([("withdrawn", 0, 3), (0, 4)], 4, None),
+    ([("withdrawn", 0, 3), ("withdrawn", 0, 4)], 0, MARK + 4),
+    ([("withdrawn", 0, MARK - 1)], 0, 2 * MARK - 1),
+    ([(0, MARK - 1)], MARK - 1, MARK - 1),
+    ([(0, 3), ("withdrawn", 1, 4)], 3, 3),
+)
+
+# The checkpoints of a worker, and whether 11 refuses the log in form 2 and in form 1.
+MARKED = (
+    ([("withdrawn", 0, 0)], True, False),
+    ([(0, MARK - 1)], False, False),
+    # the mark alone tells them apart
+    ([(0, 1), ("withdrawn", 0, 1)], True, False),
+    ([("withdrawn", 0, 1), (0, 1)], True, True),
+    ([("withdrawn", 0, 1), ("withdrawn", 0, 1)], True, True),
+    # without the mark they rise, or fall
+    ([("withdrawn", 0, 1), (0, 2)], False, True),
+    ([("withdrawn", 0, 1), (0, MARK - 1)], False, True),
+    ([(0, MARK - 1), ("withdrawn", 0, 1)], True, False),
+    ([(0, 2), ("withdrawn", 0, 1)], True, False),
+    # the index of a withdrawn one is tested too
+    ([("withdrawn", 2, 1)], True, True),
+    ([("withdrawn", 1, 1), (0, 2)], True, True),
+)
+
+
+def check_withdrawn():
+    """Logs with marked identifier words, the answers worked out by hand."""
+    def of(checkpoints, form):
+        return logs.build([logs.Worker(0, [("send", 1, 1)], checkpoints), logs.Worker(0, [("send", 0, 1)], checkpoints)], form=form)
+
+    for checkpoints, second, first in OF_INDEX_0:
+        expect("%r in form 2" % checkpoints, identifier_of(read(of(checkpoints, SECOND_FORM)), 0, 0), second)
+        if first is not None:
+            expect("%r in form 1" % checkpoints, identifier_of(read(of(checkpoints, FIRST_FORM)), 0, 0), first)
+    for checkpoints, *refused in MARKED:
+        found = [refusal(of(checkpoints, form)) for form in (SECOND_FORM, FIRST_FORM)]
+        expect("%r in forms 2 and 1" % checkpoints, found, [11 if fault else 0 for fault in refused])
+    # worker 0 starts at its last checkpoint that is not withdrawn; set 7 covers in form 1 alone, by its whole word
+    data = of([(0, 5), (1, 6), ("withdrawn", 1, 7)], SECOND_FORM)
+    for data, words, covering in (
+        (data, [1, 1, 6, 0, 0, 5], [True, True, True, False, False]),
+        (logs.in_form(data, FIRST_FORM), [1, 1, MARK + 7, 0, 0, 5], [True, True, True, False, True]),
+    ):
+        expect("words", plan_call(data, 0, 1, [9] * 6, 4)[5], words)
+        expect("sets", [covers(read(data), identifier) for identifier in (0, 5, 6, 7, MARK + 7)], covering)
+
+
 # Set 9 of two workers: worker 0 has three sends, and the second event of worker 1 is the receive of the second send. The index
 # of the sender's checkpoint, that of the receiver's, and whether the set covers where the receive is kind 2; with kind 3 it does.
 SET_9 = (
@@ -692,7 +758,7 @@ def random_workers(seed, form):
         w = rng.randrange(n)
         if sends[w] and rng.random() < 0.6:
             peer, send, stamp = received = rng.choice(sends[w])
-            if form == ONCE:
+            if form == SECOND_FORM:
                 sends[w].remove(received)
             stamps[w] = max(stamps[w], stamp) + rng.randint(1, 2)
             workers[w].events.append((rng.choice(["receive", "receive", "logged"]), peer, send, stamps[w]))
@@ -705,6 +771,18 @@ def random_workers(seed, form):
         indices = sorted(rng.randint(0, len(worker.events)) for _ in range(rng.randint(0, 3)))
         worker.checkpoints = [(index, 2 * c + rng.randint(1, 2)) for c, index in enumerate(indices)]
     return workers
+
+
+def with_some_withdrawn(seed, workers):
+    """These workers with some of their checkpoints withdrawn, and the same workers without the records of those."""
+    rng = random.Random(seed)
+    share = rng.choice((0.2, 0.5, 0.8, 1))
+    marked, without = [], []
+    for worker in workers:
+        told = [(checkpoint, rng.random() < share) for checkpoint in worker.checkpoints]
+        marked.append(logs.Worker(worker.role, worker.events, [("withdrawn",) * mark + checkpoint for checkpoint, mark in told]))
+        without.append(logs.Worker(worker.role, worker.events, [checkpoint for checkpoint, mark in told if not mark]))
+    return marked, without
 
 
 def scattered(seed, workers, form):
@@ -911,19 +989,49 @@ def check_random_sets(logs_tried):
     return covering, at_checkpoint, floor
 
 
+def check_random_withdrawn(logs_tried):
+    """Logs of form 2 with some checkpoints withdrawn: every call gives what it gives for the log without these records, and each
+    has its own packed log. The number of logs with a withdrawn checkpoint, and of plans that differ from those with none withdrawn."""
+    some = moved = 0
+    for seed in range(logs_tried):
+        workers = random_workers(seed, SECOND_FORM)
+        marked, without = with_some_withdrawn(seed, workers)
+        data, unmarked, less = (logs.build(each, form=SECOND_FORM) for each in (marked, workers, without))
+        check_pack(data, scattered(seed, marked, SECOND_FORM))
+        log = read(data)
+        expect("the mark is packed", packed(log) == packed(read(unmarked)), data == unmarked)
+        some += data != unmarked
+        enough = log.n * log.n + 3 * (log.n + 1)
+        for i, e in log.every_event():
+            check_plan(log, data, i, e)
+            check_floor(log, i, e)
+            found = every_call(data, log.n, i, e, enough)
+            expect("without the withdrawn", found, every_call(less, log.n, i, e, enough))
+            moved += found != every_call(unmarked, log.n, i, e, enough)
+        for identifier in itertools.chain(range(8), range(MARK, MARK + 8)):
+            check_covering(log, identifier)
+            expect("without the withdrawn", covers(log, identifier), covers(read(less), identifier))
+    return some, moved
+
+
 def check():
     check_tube()
     check_smaller()
     check_checkpoints()
+    check_withdrawn()
     check_sets()
     check_limit()
     repeats, tried, lowered, floor = check_random(400)
     covering, at_checkpoint, more = check_random_sets(400)
     floor += more
+    withdrawn, moved = check_random_withdrawn(400)
+    assert withdrawn > 0 and moved > 0
     assert all(floor[count] > 0 for count in FLOOR), floor
     print("T1 to T10; %d breakpoints of 400 logs of each form, %d of them with starts below the latest" % (tried, lowered))
     print("each log in both forms, %d of them with two receives of one send; packed, also from sections in any order" % repeats)
     print("2400 sets, %d of them cover, %d do not because of sends at the checkpoint alone" % (covering, at_checkpoint))
+    print("%d logs with withdrawn checkpoints, and each without these records; at %d breakpoints some answer is another one than with "
+        "none withdrawn" % (withdrawn, moved))
     print("sets that cover, within the cut: %(at)d times each start is at the set, in %(lowered)d of these with a later checkpoint "
         "within the cut; %(later)d times one is later" % floor)
     print("sets that cover, past the cut in some worker: %(past)d times a start is before the set, in %(within)d of these before a "

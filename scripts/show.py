@@ -69,6 +69,10 @@ def event_text(x, event):
     return "%d %s %s at %d" % (x, kind, "to %d" % event.peer if kind == "send" else "%d/%d" % (event.peer, event.send), event.stamp)
 
 
+def checkpoint_text(checkpoint):
+    return "%d %d%s" % (checkpoint.index, checkpoint.identifier, " withdrawn" if checkpoint.withdrawn else "")
+
+
 def log_rows(data):
     """An accepted log, worker by worker; a receive names its send by worker and event."""
     if reference.refusal(data):
@@ -79,7 +83,7 @@ def log_rows(data):
         rows.append("worker %d role %d events %d checkpoints %d" % (w, log.roles[w], log.count(w), len(log.checkpoints[w])))
         for what, records in (
             ("events", [event_text(x, event) for x, event in enumerate(log.events[w], 1)]),
-            ("checkpoints, index and identifier", ["%d %d" % checkpoint for checkpoint in log.checkpoints[w]]),
+            ("checkpoints, index and identifier", [checkpoint_text(checkpoint) for checkpoint in log.checkpoints[w]]),
         ):
             more = ["%d more" % (len(records) - EVENTS)] if len(records) > EVENTS else []
             if records:
