@@ -21,7 +21,8 @@ The lines of a case:
 The ways: in way k, 0 to 5, one word or byte too few is lent of kind k, and just enough of the others. In ways 6 and 7 it is just
 enough of each kind, in way 8 it is 8 more than needed, and in way 9 one too few. A call that only writes words is lent fillers.
 The others are given the words of the case, all from reference.py: its lower cut, its plan, and positions at the planned starts;
-where the case is refused they are fillers. The identifier of a covering set is 4294967295 in way 0 and k - 1 in way k.
+where the case is refused they are fillers. The identifier of a covering set is 4294967295 in way 0, the largest without the mark of
+a withdrawn checkpoint in way 5, a 1 with the mark in way 6, and k - 1 in each other way k.
 
 `pack` is called in ways 4 to 9 alone, and in way 7 with no byte lent. It is lent bytes for the packed log, as many as the log
 has where that is refused, but never more than ROOM. Ways 6 and 8, in which it writes, are left out where the packed log has more
@@ -68,7 +69,7 @@ ENOUGH, NO_BYTE, MORE, FEW = range(6, 10)
 WAYS = range(FEW + 1)
 
 # The identifier that is tested for a covering set, in each way.
-IDENTIFIERS = [(way - 1) % 2 ** 32 for way in WAYS]
+IDENTIFIERS = [4294967295, 0, 1, 2, 3, reference.MARK - 1, reference.MARK + 1, 6, 7, 8]
 
 # The first lines with changed words, of a list, and of lost starts; the changes.
 CHANGED = FEW + 1

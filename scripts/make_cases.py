@@ -17,7 +17,7 @@ import reference
 from calls import IDENTIFIERS, listed
 from expected import case_lines
 from logs import Worker, build, case_file, cut_to, extended, in_form, packed, tube
-from reference import MAX_WORKERS
+from reference import MARK, MAX_WORKERS
 
 # The last of the most workers.
 LAST = MAX_WORKERS - 1
@@ -894,7 +894,7 @@ plan_case("all_of_5_lowered_in_mixed_order", after_each(["send"], chain([3, 0, 4
 # of worker 0 after its checkpoint is of the send at that of worker 1
 plan_case("lowered_150_times", after_each(["send"], exchange(75)), 0, 150, (0, 0))
 # with checkpoints after the receives nothing is lowered, and every set covers: later receives are of later sends
-plan_case("lowered_no_time", after_each(["receive"], exchange(75)), 0, 150, (150, 149), covering=(0, 1, 2, 3, 4, 5, 6, 7, 8))
+plan_case("lowered_no_time", after_each(["receive"], exchange(75)), 0, 150, (150, 149), covering=(0, 1, 2, 3, 6, 7, 8))
 
 # ---- Kinds mixed, and every role
 
@@ -1064,6 +1064,135 @@ for byte, peer_event, covering, upper in ((1, 0, (0, 1), [2, 3]), (2, 2, (0,), [
     log = with_kind(byte, peer_event)
     plan_case("kind_byte_%d_past_the_cut" % byte, log, 0, 2, (2, 1), [1, 1], units=0, covering=covering, cut=[2, 1])
     assert reference.upper_line(reference.read(log), 0, 2) == upper
+
+# ---- Withdrawn checkpoints: "In form 2 the top bit of the identifier word marks a withdrawn checkpoint; the low 31 bits are the
+# identifier". In form 1 the whole word is the identifier.
+
+
+def marked(index, identifier):
+    """A checkpoint whose identifier word has the mark: in form 2 it is withdrawn."""
+    return ("withdrawn", index, identifier)
+
+
+def withdrawn_case(name, workers, *rest, **more):
+    """A plan case in form 2."""
+    plan_case(name, build(workers, form=2), *rest, **more)
+
+
+# worker 1 replays a receive with its data, so worker 0 starts at the latest checkpoint up to its second event that is not withdrawn
+for name, checkpoints, start, identifier in (
+    ("latest_checkpoint_withdrawn", [(1, 1), marked(2, 2)], 1, 1),
+    ("earlier_checkpoint_withdrawn", [marked(1, 1), (2, 2)], 2, 2),
+    ("all_checkpoints_withdrawn", [marked(1, 1), marked(2, 2), marked(3, 3)], 0, 0),
+    ("first_of_two_at_one_index_withdrawn", [(1, 1), marked(2, 2), (2, 3)], 2, 3),
+    ("last_of_two_at_one_index_withdrawn", [(1, 1), (2, 2), marked(2, 3)], 2, 2),
+    ("both_of_two_at_one_index_withdrawn", [(1, 1), marked(2, 2), marked(2, 3)], 1, 1),
+    ("middle_of_three_at_one_index_withdrawn", [(2, 1), marked(2, 2), (2, 3)], 2, 3),
+    ("withdrawn_checkpoint_past_the_cut", [(2, 1), marked(3, 2)], 2, 1),
+):
+    withdrawn_case(name, second_of_three(checkpoints, "logged"), 1, 1, (start, 0), [identifier, 0])
+# without its data worker 0 starts before its second event: past a withdrawn checkpoint, where the one after it is too late
+withdrawn_case("lowered_past_a_withdrawn_checkpoint", second_of_three([(0, 1), marked(1, 2), (2, 3)]), 1, 1, (0, 0), [1, 0])
+# at index 0 alone: the initial state shows 0, and not the identifier of the withdrawn one
+withdrawn_case("withdrawn_at_index_0", second_of_three([marked(0, 3), (2, 4)]), 1, 1, (0, 0), [0, 0])
+withdrawn_case("withdrawn_at_index_0_after_another", second_of_three([(0, 3), marked(0, 4), (2, 5)]), 1, 1, (0, 0), [3, 0])
+withdrawn_case("withdrawn_at_index_0_before_another", second_of_three([marked(0, 3), (0, 4), (2, 5)]), 1, 1, (0, 0), [4, 0])
+withdrawn_case("two_withdrawn_at_index_0", second_of_three([marked(0, 3), marked(0, 4), (2, 5)]), 1, 1, (0, 0), [0, 0])
+withdrawn_case("withdrawn_at_index_0_of_a_worker_without_events_in_the_cut", second_of_three(
+    [(1, 1)], receiver_checkpoints=[(0, 2), marked(0, 4)]), 0, 1, (1, 0), [1, 2])
+
+# the tube log with the data of receives 2/2 and 1/1 logged, and the checkpoint of worker 1 withdrawn. With none withdrawn set 1 covers
+# and the plan of 1/4 starts every worker there (tube_log_receives_2_2_and_1_1_logged); now worker 1 replays its first send too
+withdrawn_case("tube_log_with_a_withdrawn_checkpoint", [
+    Worker(3, [("receive", 2, 1, 2), ("receive", 1, 3, 5), ("send", 1, 6)], [(1, 1)]),
+    Worker(1, [("send", 2, 1), ("logged", 2, 2, 3), ("send", 0, 4), ("receive", 0, 3, 7)], [marked(1, 1)]),
+    Worker(0, [("send", 0, 1), ("send", 1, 2), ("logged", 1, 1, 3)], [(2, 1)]),
+], 1, 4, (1, 0, 2), [1, 0, 1], units=19 + 2)
+
+# a set of which one checkpoint is withdrawn, in the first worker and in the last
+withdrawn_case("set_with_one_withdrawn_in_the_first", covering_workers("logged", [(1, 1), marked(2, 2), (2, 3)], SETS[1]), 1, 2,
+    (1, 2), [1, 3], covering=(0, 1, 3))
+withdrawn_case("set_with_one_withdrawn_in_the_last", covering_workers("logged", SETS[0], [(1, 1), (1, 2), marked(2, 3)]), 1, 2,
+    (1, 1), [1, 2], covering=(0, 1, 2))
+withdrawn_case("set_withdrawn_in_each", covering_workers("logged", [marked(1, 1), (2, 2)], [marked(1, 1), (1, 2)]), 1, 2,
+    (0, 1), [0, 2], covering=(0, 2))
+withdrawn_case("set_withdrawn_in_a_worker_without_events", covering_workers("logged", *SETS, [(0, 1), marked(0, 2), (0, 3)]), 1, 1,
+    (0, 1, 0), [0, 2, 3], covering=(0, 1, 3))
+# both sets are within the cut, and set 2 would cover if its checkpoint of worker 0 were not withdrawn: worker 0 starts before it, and at
+# set 1, which covers
+withdrawn_case("floor_of_a_set_before_a_withdrawn_one", covering_workers("receive", [(1, 1), marked(2, 2)], [(2, 1), (2, 2)], send=2),
+    1, 2, (1, 2), [1, 2], covering=(0, 1), cut=[2, 2])
+
+# the same words in both forms: in form 1 the checkpoint has a large identifier, which the plan words show whole
+TOP_BIT = second_of_three([(1, 5), (2, MARK + 6)], "logged")
+plan_case("identifier_with_the_top_bit_in_form_1", TOP_BIT, 1, 1, (2, 0), [MARK + 6, 0])
+withdrawn_case("identifier_with_the_top_bit_in_form_2", TOP_BIT, 1, 1, (1, 0), [5, 0])
+TOP_BITS = [(2, MARK + 1)], [(2, MARK + 1)]
+plan_case("set_with_the_top_bit_in_form_1", covering_workers("receive", *TOP_BITS), 0, 2, (2, 0), [MARK + 1, 0],
+    covering=(0, MARK + 1))
+withdrawn_case("set_with_the_top_bit_in_form_2", covering_workers("receive", *TOP_BITS), 0, 2, (0, 0), [0, 0])
+# asked for with the mark, identifier 1 covers nothing in form 2
+withdrawn_case("set_1_asked_for_with_the_mark", covering_workers("receive", [(2, 1)], [(2, 1)]), 0, 2, (2, 0), [1, 0],
+    covering=(0, 1))
+
+# the largest identifier without the mark, of a set that covers; the same with the mark in one worker, and in both
+LARGE = MARK - 1
+for name, first, second, starts, identifiers, covering in (
+    ("of_none", (2, LARGE), (2, LARGE), (2, 0), [LARGE, 0], (0, LARGE)),
+    ("of_one", (2, LARGE), marked(2, LARGE), (2, 0), [LARGE, 0], (0,)),
+    ("of_both", marked(2, LARGE), marked(2, LARGE), (0, 0), [0, 0], (0,)),
+):
+    withdrawn_case("set_2147483647_withdrawn_%s" % name, covering_workers("receive", [first], [second]), 0, 2,
+        starts, identifiers, covering=covering)
+# a marked 1 before it rises, and after it falls; in form 1 it is the other way round
+withdrawn_case("marked_1_before_2147483647", second_of_three([marked(1, 1), (2, LARGE)], "logged"), 1, 1, (2, 0), [LARGE, 0])
+case("marked_1_before_2147483647_in_form_1", 11, build(second_of_three([marked(1, 1), (2, LARGE)], "logged")))
+case("marked_1_after_2147483647", 11, build(second_of_three([(1, LARGE), marked(2, 1)], "logged"), form=2))
+plan_case("marked_1_after_2147483647_in_form_1", second_of_three([(1, LARGE), marked(2, 1)], "logged"), 1, 1, (2, 0), [MARK + 1, 0])
+
+# 11 in form 2: without its mark an identifier is 0, or not above the one before it
+for name, checkpoints in (
+    ("marked_0", [marked(1, 0)]),
+    ("marked_0_after_another", [(0, 1), marked(1, 0)]),
+    ("identifiers_that_differ_in_the_mark_alone", [(1, 1), marked(2, 1)]),
+    ("identifiers_that_differ_in_the_mark_alone_marked_first", [marked(1, 1), (2, 1)]),
+    ("equal_identifiers_both_marked", [marked(1, 1), marked(2, 1)]),
+    ("identifier_falls_both_marked", [marked(1, 2), marked(2, 1)]),
+    ("index_of_a_marked_one_over_the_event_count", [marked(4, 1)]),
+    ("index_of_a_marked_one_falls", [marked(2, 1), marked(1, 2)]),
+):
+    case(name, 11, build(second_of_three(checkpoints), form=2), worker=1, event=1)
+# in form 1 the same words are identifiers that rise
+plan_case("marked_0_in_form_1", second_of_three([marked(1, 0)]), 1, 1, (1, 0), [MARK, 0])
+plan_case("identifiers_that_differ_in_the_mark_alone_in_form_1", second_of_three([(1, 1), marked(2, 1)], "logged"), 1, 1,
+    (2, 0), [MARK + 1, 0])
+
+
+def sends_with_withdrawn(kept):
+    """1,024 sends of worker 0, a checkpoint after each, all of them withdrawn but these; worker 1 receives the last send."""
+    return [
+        Worker(0, [("send", 1, x) for x in range(1, 1025)], [(x, x) if x in kept else marked(x, x) for x in range(1, 1025)]),
+        Worker(1, [("receive", 0, 1024, 2000)]),
+    ]
+
+
+for name, kept, start in (
+    ("all", (), 0), ("all_but_the_first", (1,), 1), ("all_but_the_last", (1024,), 0), ("all_but_two", (7, 1023), 1023),
+):
+    withdrawn_case("%s_of_1024_withdrawn" % name, sends_with_withdrawn(kept), 1, 1, (start, 0), [start, 0])
+withdrawn_case("1024_withdrawn_at_one_index", [
+    Worker(0, [("send", 1, 1)], [marked(1, c + 1) for c in range(1024)]), Worker(),
+], 0, 1, (0, 0), [0, 0])
+# every second checkpoint of the 150 rounds of lowered_150_times
+withdrawn_case("lowered_150_times_past_withdrawn_checkpoints", [
+    Worker(worker.role, worker.events, [marked(*c) if c[1] % 2 else c for c in worker.checkpoints])
+    for worker in after_each(["send"], exchange(75))
+], 0, 150, (0, 0))
+
+# the mark is packed too
+pack_case("withdrawn_in_another_order_with_gaps", [
+    Worker(worker.role, worker.events, [marked(*c) if c[1] in (2, 3) else c for c in worker.checkpoints]) for worker in THREE
+], SCATTERED, form=2, event=3)
 
 
 def files():
