@@ -2,7 +2,7 @@
 //! before and behind.
 
 use crate::description::{
-    packed_length, worker_count, Description, MAX_LOG, MAX_WORKERS, PLAN_WORDS, SCRATCH_WORDS,
+    packed_length, worker_count, Description, MARK, MAX_LOG, MAX_WORKERS, PLAN_WORDS, SCRATCH_WORDS,
 };
 use crate::failure::{self, Call, Difference, Meaning};
 use crate::random::Random;
@@ -1122,6 +1122,7 @@ fn tests(random: &mut Random, log: &[u8], accepted: &Log, seen: &mut Seen) {
     for choices in [recorded, sets] {
         if !choices.is_empty() {
             identifiers.extend((0..3).map(|_| random.pick(&choices)));
+            identifiers.push(random.pick(&choices) ^ MARK);
         }
     }
     for identifier in identifiers {

@@ -14,6 +14,9 @@ pub const PLAN_WORDS: usize = 3 * MAX_WORKERS;
 /// The scratch words that it needs.
 pub const SCRATCH_WORDS: usize = MAX_WORKERS * MAX_WORKERS;
 
+/// The top bit of an identifier word, which in form 2 marks a withdrawn checkpoint.
+pub const MARK: u32 = 1 << 31;
+
 /// An event.
 #[derive(Clone, Copy, Debug, PartialEq, Eq)]
 pub struct Event {
@@ -66,7 +69,7 @@ pub struct Worker {
     pub role: u32,
     /// The events, in order.
     pub events: Vec<Event>,
-    /// The checkpoints in order: index and identifier.
+    /// The checkpoints in order: index and identifier word.
     pub checkpoints: Vec<(u32, u32)>,
 }
 
@@ -149,7 +152,7 @@ impl Description {
             events: worker.events(0, worker.count()).map(event).collect(),
             checkpoints: worker
                 .checkpoints()
-                .map(|checkpoint| (checkpoint.index, checkpoint.identifier))
+                .map(|c| (c.index, c.identifier | u32::from(c.withdrawn) << 31))
                 .collect(),
         };
         Description {
@@ -214,6 +217,35 @@ impl Description {
         named.sort_unstable();
         named.dedup();
         receives - named.len()
+    }
+
+    /// Marks some checkpoints as withdrawn, for form 2.
+    pub fn withdraw_some(&mut self, random: &mut Random) {
+        let share = random.pick(&[100, 500, 900, 1_000]);
+        for (_, identifier) in self.workers.iter_mut().flat_map(|w| &mut w.checkpoints) {
+            if random.chance(share) {
+                *identifier |= MARK;
+            }
+        }
+    }
+
+    /// Gives the last checkpoints of each worker identifiers with the top bit, for form 1.
+    pub fn enlarge_identifiers(&mut self, random: &mut Random) {
+        for worker in &mut self.workers {
+            let first = random.within(0, worker.checkpoints.len());
+            for (_, identifier) in &mut worker.checkpoints[first..] {
+                *identifier |= MARK;
+            }
+        }
+    }
+
+    /// The content without the checkpoints that are withdrawn in form 2.
+    pub fn without_withdrawn(&self) -> Description {
+        let mut description = self.clone();
+        for worker in &mut description.workers {
+            worker.checkpoints.retain(|&(_, word)| word < MARK);
+        }
+        description
     }
 
     /// The places of a worker's receives among its events, from 0.

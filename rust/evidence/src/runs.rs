@@ -1,7 +1,7 @@
 //! Logs of simulated runs, and logs of a given shape.
 
 use crate::description::{
-    get, put, worker_count, Description, Event, Worker, MAX_EVENTS, MAX_LOG, MAX_WORKERS,
+    get, put, worker_count, Description, Event, Worker, MARK, MAX_EVENTS, MAX_LOG, MAX_WORKERS,
 };
 use crate::random::Random;
 
@@ -250,17 +250,36 @@ pub fn make_alike(description: &mut Description, random: &mut Random) {
 }
 
 /// A valid log of at most these numbers of workers and events, in any layout. Where no send is received twice, it is of either form.
+/// Half of those of form 2 have withdrawn checkpoints, and some of form 1 identifiers with the top bit.
 pub fn any_log(random: &mut Random, workers: usize, events: usize) -> Vec<u8> {
-    let description = any_run(random, workers, events);
-    let form = match description.repeats() {
-        0 => random.pick(&[1, 2, 2]),
-        _ => 1,
-    };
+    let mut description = any_run(random, workers, events);
+    let form = any_form(&description, random);
+    if form == 2 && random.chance(500) {
+        description.withdraw_some(random);
+    }
+    if form == 1 && random.chance(200) {
+        description.enlarge_identifiers(random);
+    }
     let mut log = any_layout(&description, form, random);
     if random.chance(200) {
         share_any_bytes(&mut log, random);
     }
     log
+}
+
+/// A log as [`any_log`] makes it, no identifier word of which has the top bit.
+pub fn any_unmarked_log(random: &mut Random, workers: usize, events: usize) -> Vec<u8> {
+    let description = any_run(random, workers, events);
+    let form = any_form(&description, random);
+    any_layout(&description, form, random)
+}
+
+/// A form that a log of this content may have.
+pub fn any_form(description: &Description, random: &mut Random) -> u16 {
+    match description.repeats() {
+        0 => random.pick(&[1, 2, 2]),
+        _ => 1,
+    }
 }
 
 /// A run of at most these numbers of workers and events.
@@ -326,7 +345,7 @@ fn share_any_bytes(log: &mut [u8], random: &mut Random) {
             let peer = usize::from(record[1]);
             record[0] == 1 && peer < n && peer != w && record[2..8] == [0; 6] && get(record, 8) > 0
         } else {
-            get(record, 0) <= count && get(record, 4) > 0
+            get(record, 0) <= count && get(record, 4) & !MARK > 0
         }
     };
     let places: Vec<usize> = (8 + 20 * n..(log.len() + 1).saturating_sub(size))

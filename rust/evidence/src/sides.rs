@@ -1,7 +1,7 @@
 //! The calls of both sides, the exported functions and the reference, and what they give for the same arguments.
 
 use crate::compare::{event, length, worker, State, MOST_BYTES};
-use crate::description::{packed_length, MAX_LOG, SCRATCH_WORDS};
+use crate::description::{packed_length, MARK, MAX_LOG, SCRATCH_WORDS};
 use crate::random::Random;
 use reference::Log;
 use restore_planner::calls;
@@ -146,7 +146,7 @@ impl Arguments {
             .map(|_| random.below(accepted.size() + 1) as u32)
             .collect();
         let mut arguments = Arguments::new((worker, event), state, list, accepted);
-        arguments.identifier = random.below(12) as u32;
+        arguments.identifier = random.below(12) as u32 + random.pick(&[0, 0, 0, MARK]);
         for lent in &mut arguments.lent {
             *lent = length(random, *lent);
         }

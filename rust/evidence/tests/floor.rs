@@ -5,7 +5,7 @@
 use evidence::description::{checkpoint_set, Description, Worker, MAX_WORKERS};
 use evidence::failure::{words, Call, Meaning};
 use evidence::random::Random;
-use evidence::runs::{run, Shape};
+use evidence::runs::{any_form, run, Shape};
 use evidence::sides::EXPORTED;
 
 /// An identifier that every worker has.
@@ -112,16 +112,17 @@ struct Case {
 }
 
 impl Case {
-    /// A log of at most these numbers of workers and events, in any layout. Where no send is received twice, it is of either form.
+    /// A log of at most these numbers of workers and events, in any layout. Where no send is received twice, it is of either form; some
+    /// of form 2 have withdrawn checkpoints, which the workers are without.
     fn any(random: &mut Random, workers: usize, events: usize) -> Case {
-        let description = content(random, workers, events);
-        let form = match description.repeats() {
-            0 => random.pick(&[1, 2]),
-            _ => 1,
-        };
+        let mut description = content(random, workers, events);
+        let form = any_form(&description, random);
+        if form == 2 && random.chance(200) {
+            description.withdraw_some(random);
+        }
         Case {
             log: description.lay_out(form, random),
-            workers: description.workers,
+            workers: description.without_withdrawn().workers,
             random: random.clone(),
         }
     }
@@ -293,7 +294,7 @@ fn every_event_of_small_logs() {
 #[test]
 fn late_events_of_larger_logs() {
     let mut seen = Seen::default();
-    for round in 0..300 {
+    for round in 0..400 {
         let mut random = Random::round(900, round);
         let case = Case::any(&mut random, MAX_WORKERS, 2_500);
         let sets = case.sets();

@@ -1,5 +1,5 @@
-//! The calls of document 01 with notes 1 to 3 of document 02 (form 2 of the log, the packed log, the covering test), written in Rust from
-//! their text alone.
+//! The calls of document 01 with notes 1, 2, 3 and 6 of document 02 (form 2 of the log, the packed log, the covering test, withdrawn
+//! checkpoints), written in Rust from their text alone.
 //!
 //! Tests and benchmarks compare the exported functions with these. Each call has the parameters of the exported function of its
 //! name and does the same with every lent word and byte: a refusal returns its number and changes none; on success those past the

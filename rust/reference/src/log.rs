@@ -13,10 +13,12 @@ pub const FORMS: [Form; 2] = [
     Form {
         number: 1,
         repeats: true,
+        mark: 0,
     },
     Form {
         number: 2,
         repeats: false,
+        mark: 1 << 31,
     },
 ];
 
@@ -27,6 +29,8 @@ pub struct Form {
     pub number: u16,
     /// Whether a send may be received more than once.
     pub repeats: bool,
+    /// The bit of an identifier word that marks a withdrawn checkpoint; 0 where the whole word is the identifier.
+    pub mark: u32,
 }
 
 /// An event record.
@@ -49,8 +53,10 @@ pub struct Event {
 pub struct Checkpoint {
     /// The state after this many events.
     pub index: u32,
-    /// The checkpoint's identifier.
+    /// The checkpoint's identifier, without the mark.
     pub identifier: u32,
+    /// Whether its pages are lost: it is no start and in no covering set.
+    pub withdrawn: bool,
 }
 
 /// A worker of a log: its role and its records where they lie.
@@ -58,6 +64,7 @@ pub struct Checkpoint {
 pub struct Worker<'a> {
     /// The role, 0 to 3.
     pub role: u32,
+    form: Form,
     pub(crate) events: &'a [[u8; 12]],
     pub(crate) checkpoints: &'a [[u8; 8]],
 }
@@ -128,37 +135,43 @@ impl<'a> Worker<'a> {
     }
 
     /// The recorded checkpoints, in order.
-    pub fn checkpoints(&self) -> impl ExactSizeIterator<Item = Checkpoint> + 'a {
-        self.checkpoints.iter().map(checkpoint_of)
+    pub fn checkpoints(
+        &self,
+    ) -> impl DoubleEndedIterator<Item = Checkpoint> + ExactSizeIterator + 'a {
+        let form = self.form;
+        let records = self.checkpoints.iter();
+        records.map(move |record| checkpoint_of(form, record))
     }
 
-    /// The last listed checkpoint with an index of at most `limit`; the initial state if there is none.
+    /// The last listed checkpoint that is not withdrawn and has an index of at most `limit`; the initial state if there is none.
     pub fn latest(&self, limit: u32) -> Checkpoint {
         let after = self
             .checkpoints
             .partition_point(|record| word(record, 0) <= limit);
-        match after.checked_sub(1) {
-            Some(last) => checkpoint_of(&self.checkpoints[last]),
-            None => Checkpoint::default(),
-        }
+        let mut found = self.checkpoints().take(after).rev();
+        found.find(|c| !c.withdrawn).unwrap_or_default()
     }
 
-    /// The index of the checkpoint with this identifier; 0 is the initial state's.
+    /// The index of the checkpoint with this identifier, where it is not withdrawn; 0 is the initial state's.
     pub fn index_of(&self, identifier: u32) -> Option<u32> {
         if identifier == 0 {
             return Some(0);
         }
-        self.checkpoints
-            .binary_search_by_key(&identifier, |record| word(record, 4))
-            .ok()
-            .map(|at| word(&self.checkpoints[at], 0))
+        let of = |record| checkpoint_of(self.form, record);
+        let found = self
+            .checkpoints
+            .binary_search_by_key(&identifier, |record| of(record).identifier);
+        let checkpoint = of(&self.checkpoints[found.ok()?]);
+        (!checkpoint.withdrawn).then_some(checkpoint.index)
     }
 }
 
-fn checkpoint_of(record: &[u8; 8]) -> Checkpoint {
+fn checkpoint_of(form: Form, record: &[u8; 8]) -> Checkpoint {
+    let identifier = word(record, 4);
     Checkpoint {
         index: word(record, 0),
-        identifier: word(record, 4),
+        identifier: identifier & !form.mark,
+        withdrawn: identifier & form.mark != 0,
     }
 }
 
@@ -223,6 +236,7 @@ fn layout(log: &[u8]) -> Result<Log<'_>, u32> {
         .map(|e| {
             Ok(Worker {
                 role: e.role,
+                form,
                 events: section(e.event_offset, 12 * e.events)?.as_chunks().0,
                 checkpoints: section(e.checkpoint_offset, 8 * e.checkpoints)?
                     .as_chunks()

@@ -69,7 +69,9 @@ pub(crate) fn write_plan(log: &Log, i: usize, event: u32, words: &mut [u32], tot
     let mut events = 0;
     let mut units = 0;
     for (w, worker) in log.workers.iter().enumerate() {
-        let Checkpoint { index, identifier } = starts[w];
+        let Checkpoint {
+            index, identifier, ..
+        } = starts[w];
         words[3 * w] = cut[w];
         words[3 * w + 1] = index;
         words[3 * w + 2] = identifier;
@@ -98,8 +100,8 @@ fn try_covers(log: &[u8], identifier: u32, yes: &mut [u32]) -> Result<(), u32> {
     Ok(())
 }
 
-/// Whether every worker has a checkpoint with the identifier, and no receive after its worker's one is lost from them. For 0 the
-/// initial states are meant.
+/// Whether every worker has a checkpoint with the identifier, none of them withdrawn, and no receive after its worker's one is lost from
+/// them. For 0 the initial states are meant.
 fn is_covering(log: &Log, identifier: u32) -> bool {
     let set: Option<Vec<u32>> = log
         .workers

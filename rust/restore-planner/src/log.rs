@@ -5,8 +5,10 @@ use crate::replay::StepRecord;
 use crate::{calls, header, Breakpoint, LowerCut, Plan, Refusal, Restored};
 use std::fmt;
 
-/// An accepted log, of form 1 or 2, on bytes that it borrows. The forms differ in that a log of form 1 may have two receives of one
-/// send; every method does the same for both, and the packed log has the form of the log.
+/// An accepted log, of form 1 or 2, on bytes that it borrows. A log of form 1 may have two receives of one send. In a log of form 2 a
+/// checkpoint may be withdrawn, by the top bit of its identifier word; the low 31 bits are its identifier. A withdrawn checkpoint is no
+/// start of a plan and in no covering set. Beside this every method does the same for both forms, and the packed log has the form and the
+/// marks of the log.
 ///
 /// ```
 /// use restore_planner::{Breakpoint, Log, Refusal};
@@ -113,8 +115,9 @@ impl<'a> Log<'a> {
         Ok(yes == [1])
     }
 
-    /// Whether an identifier covers: every worker has a checkpoint with it, and every receive after its worker's checkpoint, of a
-    /// send with index smaller than or equal to the sender's checkpoint, has its data logged. Identifier 0 means the initial states.
+    /// Whether an identifier covers: every worker has a checkpoint with it, none of them withdrawn, and every receive after its worker's
+    /// checkpoint, of a send with index smaller than or equal to the sender's checkpoint, has its data logged. Identifier 0 means the
+    /// initial states. In a log of form 2 a number of 2³¹ or more is no identifier, and covers nothing.
     ///
     /// A replay of all events can start from the checkpoints of an identifier that covers. Where they are all at or below a breakpoint's
     /// lower cut, its plan starts no worker before them.
@@ -139,7 +142,8 @@ impl<'a> Log<'a> {
         Ok(yes == [1])
     }
 
-    /// The restore plan of a breakpoint: the latest checkpoints from which the events within its lower cut can be replayed.
+    /// The restore plan of a breakpoint: the latest checkpoints, none of them withdrawn, from which the events within its lower cut can be
+    /// replayed.
     ///
     /// For every identifier that [covers](Log::covers) and whose checkpoints are all at or below the lower cut, no worker starts before
     /// its checkpoint with that identifier.

@@ -57,7 +57,7 @@ pub struct WorkerPlan {
     pub cut: u32,
     /// The index of the checkpoint from which the worker starts.
     pub start: u32,
-    /// The identifier of that checkpoint; 0 is the initial state.
+    /// The identifier of that checkpoint, without the mark; 0 is the initial state.
     pub identifier: u32,
 }
 

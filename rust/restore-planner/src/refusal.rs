@@ -30,7 +30,7 @@ pub enum Refusal {
     Source,
     /// 10: a receive's stamp is not above its send's.
     Order,
-    /// 11: a checkpoint's index or identifier is out of order.
+    /// 11: a checkpoint's index or identifier, in form 2 without the mark, is out of order.
     Checkpoint,
     /// 12: the worker number is not below the worker count.
     Worker,
@@ -149,7 +149,7 @@ impl Refusal {
             }
             Refusal::Checkpoint => {
                 "a worker's checkpoints are out of order: one is past the worker's last event or before the previous checkpoint, \
-                 or its identifier is 0 or not above the previous one"
+                 or its identifier, in form 2 without the mark, is 0 or not above the previous one"
             }
             Refusal::Worker => "the log has no worker of this number; workers are numbered from 0",
             Refusal::Event => "the worker has no event of this number; events are numbered from 1",

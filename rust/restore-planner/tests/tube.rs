@@ -397,6 +397,39 @@ fn plans_beside_a_covering_set() {
     assert_eq!(tube_plan().workers[2].start, 0);
 }
 
+/// Where the identifier word of worker 1's checkpoint, which is 1, has its last byte.
+const TOP_BYTE_OF_1: usize = 167;
+
+/// The start and the identifier of each worker in the plan of the last event of worker 1.
+fn starts(log: &Log) -> Vec<(u32, u32)> {
+    let plan = log.plan(at(1, 4)).unwrap();
+    let starts = plan.workers.iter();
+    starts
+        .map(|entry| (entry.start, entry.identifier))
+        .collect()
+}
+
+/// The tube log with a covering set 1 whose checkpoint of worker 1 has the top bit in its identifier word. In form 1 that is a large
+/// identifier; in form 2 the checkpoint is withdrawn, and worker 1 starts at its initial state.
+#[test]
+fn a_withdrawn_checkpoint() {
+    let mut bytes = tube_with_data_logged(&[RECEIVE_OF_2_2, RECEIVE_OF_1_1]);
+    assert_eq!(bytes[TOP_BYTE_OF_1 - 3..=TOP_BYTE_OF_1], [1, 0, 0, 0]);
+    assert_eq!(starts(&Log::new(&bytes).unwrap()), [(1, 1), (1, 1), (2, 1)]);
+    let large = 0x8000_0001;
+    bytes[TOP_BYTE_OF_1] = 0x80;
+    for (form, start) in [(1, (1, large)), (2, (0, 0))] {
+        bytes[0] = form;
+        let log = Log::new(&bytes).unwrap();
+        assert_eq!(starts(&log), [(1, 1), start, (2, 1)]);
+        assert_eq!(
+            [0, 1, large].map(|t| log.covers(t)),
+            [true, false, false].map(Ok)
+        );
+        assert_eq!(log.packed().unwrap(), bytes);
+    }
+}
+
 #[test]
 fn a_replay_by_steps() {
     let mut replay = Replay::new(&tube(), &tube_plan()).unwrap();
