@@ -9,11 +9,12 @@
 //! `covers` is the test of an identifier that covers; of any other one it ends at the first receive that is lost.
 //!
 //! At the end the test of the log and the plan are timed on form 2 beside form 1 of the same logs, in the same place in memory;
-//! `cargo run --release --bin bench forms` times nothing else, and `bench pack` only the calls whose names begin so.
+//! `cargo run --release --bin bench forms` times nothing else, and `bench pack` only the calls whose names begin so. Behind that stands the
+//! plan of a log with 1,024 withdrawn checkpoints in each worker (`bench withdrawn`).
 
 use evidence::compare::State;
 use evidence::description::{
-    set_form, Description, MAX_EVENTS, MAX_LOG, MAX_WORKERS, PLAN_WORDS, SCRATCH_WORDS,
+    set_form, Description, MARK, MAX_EVENTS, MAX_LOG, MAX_WORKERS, PLAN_WORDS, SCRATCH_WORDS,
 };
 use evidence::random::Random;
 use evidence::runs::{
@@ -420,8 +421,10 @@ fn main() {
         None => {
             print_guard(&print_calls(""));
             print_forms();
+            print_withdrawn();
         }
         Some("forms") => print_forms(),
+        Some("withdrawn") => print_withdrawn(),
         Some(start) => drop(print_calls(start)),
     }
 }
@@ -649,4 +652,49 @@ fn print_row_of_forms(
         growths[0],
         growths[1],
     );
+}
+
+/// Checkpoints of a worker with so many events: index and identifier word.
+type Taken = fn(u32) -> Vec<(u32, u32)>;
+
+/// No checkpoints; 1,024 at the last event, which is past the cut; 1,024 that are withdrawn. With each of these every worker starts at its
+/// initial state.
+const TAKEN: [(&str, Taken); 3] = [
+    ("no checkpoints", |_| Vec::new()),
+    ("1,024 past the cut", |count| {
+        (1..=1_024).map(|k| (count, k)).collect()
+    }),
+    ("1,024 withdrawn", |count| {
+        let index = |k| count * (k - 1) / 1_023;
+        (1..=1_024).map(|k| (index(k), k | MARK)).collect()
+    }),
+];
+
+/// Prints the plan of an event in the middle of a run, of form 2, with different checkpoints in each worker.
+fn print_withdrawn() {
+    let plan = CALLS.iter().find(|(call, ..)| *call == "plan");
+    let &(_, exported, reference) = plan.expect("the plan");
+    println!();
+    println!("plans that pass over checkpoints: microseconds, the least of many runs");
+    let mut description = run(&Shape::in_order(MAX_WORKERS, 80_000), &mut Random::new(1));
+    for (name, taken) in TAKEN {
+        for worker in &mut description.workers {
+            worker.checkpoints = taken(worker.events.len() as u32);
+        }
+        let mut case = Case::new(description.pack_as(2), 0);
+        case.event /= 2;
+        let planned = State::planned(&case.log, case.worker, case.event).expect("a plan");
+        assert!(planned.positions.iter().all(|&start| start == 0));
+        let input = Input {
+            name: name.to_string(),
+            cases: vec![case],
+        };
+        let times = measure(&input, exported, reference);
+        println!(
+            "  {name:<18} exported {:>7.1} reference {:>7.1} exp/ref {:.2}",
+            micros(times.exported),
+            micros(times.reference),
+            micros(times.exported) / micros(times.reference)
+        );
+    }
 }
