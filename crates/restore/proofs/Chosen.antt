@@ -60,8 +60,8 @@ identifier-last log w x (k, may, index) =
     let c = found .0 in
     let first = mayChoose log w c in
     let second = eqb (checkpointOf log w c .index) x in
-    let i = eqb-true (checkpointOf log w c .index) x (and-true-right first second (found .1 .holds)) in
-    let m = and-true-left first second (found .1 .holds) in (
+    let m = and-true-left first second (found .1 .holds) in
+    let i = eqb-true (checkpointOf log w c .index) x (and-true-right first second (found .1 .holds)) in (
       c,
       record {
         may = m;
