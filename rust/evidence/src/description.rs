@@ -152,7 +152,7 @@ impl Description {
             events: worker.events(0, worker.count()).map(event).collect(),
             checkpoints: worker
                 .checkpoints()
-                .map(|c| (c.index, c.identifier | u32::from(c.withdrawn) << 31))
+                .map(|c| (c.index, c.identifier + MARK * u32::from(c.withdrawn)))
                 .collect(),
         };
         Description {

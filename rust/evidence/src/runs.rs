@@ -253,10 +253,7 @@ pub fn make_alike(description: &mut Description, random: &mut Random) {
 /// Half of those of form 2 have withdrawn checkpoints, and some of form 1 identifiers with the top bit.
 pub fn any_log(random: &mut Random, workers: usize, events: usize) -> Vec<u8> {
     let mut description = any_run(random, workers, events);
-    let form = any_form(&description, random);
-    if form == 2 && random.chance(500) {
-        description.withdraw_some(random);
-    }
+    let form = any_form(&mut description, 500, random);
     if form == 1 && random.chance(200) {
         description.enlarge_identifiers(random);
     }
@@ -267,19 +264,16 @@ pub fn any_log(random: &mut Random, workers: usize, events: usize) -> Vec<u8> {
     log
 }
 
-/// A log as [`any_log`] makes it, no identifier word of which has the top bit.
-pub fn any_unmarked_log(random: &mut Random, workers: usize, events: usize) -> Vec<u8> {
-    let description = any_run(random, workers, events);
-    let form = any_form(&description, random);
-    any_layout(&description, form, random)
-}
-
-/// A form that a log of this content may have.
-pub fn any_form(description: &Description, random: &mut Random) -> u16 {
-    match description.repeats() {
+/// A form that a log of this content may have. In this share, of 1,000, of the cases of form 2 some checkpoints are withdrawn.
+pub fn any_form(description: &mut Description, withdrawn: usize, random: &mut Random) -> u16 {
+    let form = match description.repeats() {
         0 => random.pick(&[1, 2, 2]),
         _ => 1,
+    };
+    if form == 2 && random.chance(withdrawn) {
+        description.withdraw_some(random);
     }
+    form
 }
 
 /// A run of at most these numbers of workers and events.

@@ -7,7 +7,7 @@ use evidence::description::{
 };
 use evidence::failure::{words, Call, Difference, Meaning};
 use evidence::random::Random;
-use evidence::runs::{any_form, any_log, any_unmarked_log, make_alike, repeat_any, run, Shape};
+use evidence::runs::{any_form, any_log, make_alike, repeat_any, run, Shape};
 use evidence::sides::{Arguments, Calls, EXPORTED, NAMES, REFERENCE};
 
 /// A log's content, without its withdrawn checkpoints, with the events that happened before each event, as bits.
@@ -215,10 +215,7 @@ fn every_event_of_small_logs() {
     for round in 0..2_000 {
         let mut random = Random::round(1, round);
         let mut description = small(&mut random);
-        let form = any_form(&description, &mut random);
-        if form == 2 && random.chance(500) {
-            description.withdraw_some(&mut random);
-        }
+        let form = any_form(&mut description, 500, &mut random);
         let log = description.pack_as(form);
         let model = Model::new(description.without_withdrawn());
         call(&random, &log, "reference::log_refusal", &[])
@@ -451,10 +448,7 @@ fn covering_sets_of_small_logs() {
     for round in 0..15_000 {
         let mut random = Random::round(7, round);
         let mut description = small(&mut random);
-        let form = any_form(&description, &mut random);
-        if form == 2 && random.chance(300) {
-            description.withdraw_some(&mut random);
-        }
+        let form = any_form(&mut description, 300, &mut random);
         let log = description.lay_out(form, &mut random);
         let model = Model::new(description.without_withdrawn());
         covering_sets(&model, &log, &random, &mut seen);
@@ -581,9 +575,12 @@ fn two_receives_of_one_send_in_damaged_logs() {
 #[test]
 fn both_forms_of_a_log() {
     let mut accepted = [0; NAMES.len()];
-    for round in 0..4_000 {
+    for round in 0..6_000 {
         let mut random = Random::round(4, round);
-        let log = any_unmarked_log(&mut random, 6, 60);
+        let log = any_log(&mut random, 6, 60);
+        if is_marked(&log) {
+            continue;
+        }
         let (one, two) = (in_form(&log, 1), in_form(&log, 2));
         if reference::log_refusal(&two) == 24 {
             continue;
@@ -628,10 +625,7 @@ fn logs_of_one_content() {
         if random.chance(500) {
             make_alike(&mut description, &mut random);
         }
-        let form = any_form(&description, &mut random);
-        if form == 2 && random.chance(300) {
-            description.withdraw_some(&mut random);
-        }
+        let form = any_form(&mut description, 300, &mut random);
         let expected = description.pack_as(form);
         for log in [
             expected.clone(),

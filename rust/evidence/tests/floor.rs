@@ -116,10 +116,7 @@ impl Case {
     /// of form 2 have withdrawn checkpoints, which the workers are without.
     fn any(random: &mut Random, workers: usize, events: usize) -> Case {
         let mut description = content(random, workers, events);
-        let form = any_form(&description, random);
-        if form == 2 && random.chance(200) {
-            description.withdraw_some(random);
-        }
+        let form = any_form(&mut description, 200, random);
         Case {
             log: description.lay_out(form, random),
             workers: description.without_withdrawn().workers,
