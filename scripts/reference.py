@@ -991,7 +991,8 @@ def check_random_sets(logs_tried):
 
 def check_random_withdrawn(logs_tried):
     """Logs of form 2 with some checkpoints withdrawn: every call gives what it gives for the log without these records, and each
-    has its own packed log. The number of logs with a withdrawn checkpoint, and of plans that differ from those with none withdrawn."""
+    has its own packed log. The number of logs with a withdrawn checkpoint, and of breakpoints at which some call gives something
+    else with none withdrawn."""
     some = moved = 0
     for seed in range(logs_tried):
         workers = random_workers(seed, SECOND_FORM)
