@@ -5,24 +5,27 @@ words that it writes over. Each is FILLER at first. Standard input has for each 
 entries, each a place and a value, in numbers of 4 bytes with the lowest first. An entry puts the value at the place. At a place
 below ENTRIES it is an action besides:
 
-    0 to 10    the call of this number in NAMES, on the numbers as they are. The value is its worker, or the identifier of a
+    0 to 12    the call of this number in NAMES, on the numbers as they are. The value is its worker, or the identifier of a
                covering set
-    11         a new line of the output. The value is its number
+    13         a new line of the output. The value is its number
 
 The lines of a case:
 
     no number    the refusal of the log
-    0 to 9       every call, with the words lent in one of the ways below
+    0 to 9       every call but `built_in`, with the words lent in one of the ways below
     10 to 12     each word of the case in turn changed, by 1, by 65536 and by 4294967295, a sum that wraps: for a word of the
                  cut the cut test, else a step of the first worker and one of the last
     13 to 16     the steps of a list, in four patterns, from the planned starts
-    17 + w       three steps of worker w, while every other worker starts at its cut: what these sent before is lost
+    17           in some cases: with each of TABLES as the unit table, loading it, the plan, and the plan with a list of steps;
+                 and the built-in table, with each of FOR_TABLE words lent for it
+    18 + w       three steps of worker w, while every other worker starts at its cut: what these sent before is lost
 
 The ways: in way k, 0 to 5, one word or byte too few is lent of kind k, and just enough of the others. In ways 6 and 7 it is just
 enough of each kind, in way 8 it is 8 more than needed, and in way 9 one too few. A call that only writes words is lent fillers.
 The others are given the words of the case, all from reference.py: its lower cut, its plan, and positions at the planned starts;
 where the case is refused they are fillers. The identifier of a covering set is 4294967295 in way 0, the largest without the mark of
-a withdrawn checkpoint in way 5, a 1 with the mark in way 6, and k - 1 in each other way k.
+a withdrawn checkpoint in way 5, a 1 with the mark in way 6, and k - 1 in each other way k. The unit table of a plan is
+IN_WAY[k]; in ways 0, 1 and 9 it is one that does not load. In way 6 both calls of a plan are made again, with one that does not.
 
 `pack` is called in ways 4 to 9 alone, and in way 7 with no byte lent. It is lent bytes for the packed log, as many as the log
 has where that is refused, but never more than ROOM. Ways 6 and 8, in which it writes, are left out where the packed log has more
@@ -36,18 +39,22 @@ import reference
 
 MAX_WORKERS = reference.MAX_WORKERS
 
-NAMES = ("log_refusal", "vector", "upper_line", "covers", "cut_test", "step", "steps", "lower_cut", "plan", "restore", "pack")
+NAMES = (
+    "log_refusal", "vector", "upper_line", "covers", "cut_test", "step", "steps", "lower_cut", "plan", "restore", "pack",
+    "load_table", "built_in")
 LINE = len(NAMES)
 ENTRIES = LINE + 1
 
 # The places of the counts: the words that a call reads, and those that it writes, which are a line, a cut, a plan, the answer of
-# a test or the positions of a step; scratch; the positions and answers of a list of steps; totals; bytes; the list.
-READ, WRITTEN, SCRATCH, POSITIONS, ANSWERS, TOTALS, BYTES, LIST = range(ENTRIES, ENTRIES + 8)
+# a test, the positions of a step or the built-in table; scratch; the positions and answers of a list of steps; totals; bytes; the
+# list; the unit table.
+READ, WRITTEN, SCRATCH, POSITIONS, ANSWERS, TOTALS, BYTES, LIST, TABLE = range(ENTRIES, ENTRIES + 9)
 
 # The first places of the words.
-READ_AT = LIST + 1
+READ_AT = TABLE + 1
 LIST_AT = READ_AT + 3 * MAX_WORKERS + 8
-WRITTEN_AT = LIST_AT + 8 * (MAX_WORKERS + 2)
+TABLE_AT = LIST_AT + 8 * (MAX_WORKERS + 2)
+WRITTEN_AT = TABLE_AT + 32
 ANSWERS_AT = WRITTEN_AT + MAX_WORKERS + 8
 SIZE = WRITTEN_AT + MAX_WORKERS ** 2 + 8
 
@@ -71,16 +78,40 @@ WAYS = range(FEW + 1)
 # The identifier that is tested for a covering set, in each way.
 IDENTIFIERS = [4294967295, 0, 1, 2, 3, reference.MARK - 1, reference.MARK + 1, 6, 7, 8]
 
-# The first lines with changed words, of a list, and of lost starts; the changes.
+# Unit tables: the built-in one, the least and the largest, one whose words all differ, and the built-in one with a word in the
+# first or the last place.
+BUILT_IN = reference.BUILT_IN
+ONES, THOUSANDS, RISING = [1] * 12, [1000] * 12, list(range(101, 113))
+
+
+def with_first(word):
+    return [word] + BUILT_IN[1:]
+
+
+def with_last(word):
+    return BUILT_IN[:11] + [word]
+
+
+# The unit table in each way, and those of line 17: of each length, with each word in the first and in the last place.
+IN_WAY = [BUILT_IN[:11], with_first(0), RISING, ONES, THOUSANDS, BUILT_IN, BUILT_IN, BUILT_IN, RISING, with_last(1001)[1:]]
+TABLES = (
+    [BUILT_IN, ONES, THOUSANDS, RISING, [], BUILT_IN[:11], BUILT_IN + [1], BUILT_IN + BUILT_IN]
+    + [table(word) for word in (0, 1, 1000, 1001, 4294967295) for table in (with_first, with_last)]
+)
+FOR_TABLE = (0, 11, 12, 20)
+
+# The first lines with changed words, of a list, of the tables, and of lost starts; the changes.
 CHANGED = FEW + 1
 CHANGES = (1, 65536, 4294967295)
 LISTS = CHANGED + len(CHANGES)
 PATTERNS = range(4)
-LOST = LISTS + len(PATTERNS)
+BY_TABLE = LISTS + len(PATTERNS)
+LOST = BY_TABLE + 1
 
-# The numbers of the longest list, and of one that is lent with a plan.
+# The numbers of the longest list, of one that is lent with a plan, and of one that is lent with a plan and each table.
 LONGEST = 8 * (MAX_WORKERS + 2)
 REPLAYED = 32
+REPLAYED_BY_TABLE = 3
 
 NO_WORKER = 4294967295
 
@@ -122,7 +153,7 @@ class Words:
     """The words of a case."""
 
     def __init__(self, case, n):
-        number, *_, self.plan = reference.plan_call(*case, [FILLER] * (3 * n), n * n)
+        number, *_, self.plan = reference.plan_call(*case, BUILT_IN, [FILLER] * (3 * n), n * n)
         self.cut = self.plan[0::3] if number else reference.lower_cut_call(*case, [FILLER] * n, n * n)[3]
         self.positions = self.plan[1::3]
 
@@ -134,7 +165,7 @@ class Words:
 class Calls:
     """The entries of a case as they are added, and the labels of those that are actions, for show.py."""
 
-    def __init__(self, content):
+    def __init__(self, content, with_tables):
         self.log, self.worker, _ = case = case_of(content)
         self.n = size(self.log)
         self.words = Words(case, self.n)
@@ -151,6 +182,9 @@ class Calls:
         for pattern in PATTERNS:
             self.begin(LISTS + pattern)
             self.add_steps(self.words.plan, worker_numbers(pattern, self.n, 8 * (self.n + 2)))
+        if with_tables:
+            self.begin(BY_TABLE)
+            self.add_tables()
         for w in range(self.n):
             self.begin(LOST + w)
             self.add_steps(self.words.with_others_lost(w), [w] * 3)
@@ -183,9 +217,13 @@ class Calls:
 
     def add_way(self, way):
         self.put(WRITTEN_AT, [FILLER] * self.n)
+        self.put_table(IN_WAY[way])
+        self.make("load_table")
         self.add_tests(way)
         self.add_searches(way)
         self.add_restore(way)
+        if way == ENOUGH:
+            self.add_plans(BUILT_IN + [1])
         self.put(READ_AT, self.words.plan)
         self.put(WRITTEN_AT, self.words.positions)
         self.lend_plan(way)
@@ -212,12 +250,15 @@ class Calls:
         self.make("plan", self.worker)
 
     def add_restore(self, way):
-        """The words of the plan and the scratch are lent as before."""
-        self.put_list(way, REPLAYED)
-        self.lend(POSITIONS, self.n, OF_POSITIONS, way)
-        self.lend(ANSWERS, REPLAYED * (self.n + 1), OF_ANSWERS, way)
+        """The words of the plan, the scratch and the unit table are lent as before."""
+        self.lend_restore(way, REPLAYED)
         self.lend(TOTALS, 4, OF_TOTALS, way)
         self.make("restore", self.worker)
+
+    def lend_restore(self, way, count):
+        self.put_list(way, count)
+        self.lend(POSITIONS, self.n, OF_POSITIONS, way)
+        self.lend(ANSWERS, count * (self.n + 1), OF_ANSWERS, way)
 
     def add_pack(self, way):
         length = packed_length(self.log)
@@ -226,6 +267,28 @@ class Calls:
         self.put(BYTES, [0 if way == NO_BYTE else lent(length, OF_BYTES, way)])
         self.lend(TOTALS, 1, OF_TOTALS, way)
         self.make("pack")
+
+    def put_table(self, table):
+        self.put(TABLE_AT, table)
+        self.put(TABLE, [len(table)])
+
+    def add_plans(self, table):
+        """Loads a table, and makes both calls of a plan with it."""
+        self.put_table(table)
+        for name in ("load_table", "plan", "restore"):
+            self.make(name, self.worker, "%d words %s, " % (len(table), table))
+
+    def add_tables(self):
+        self.put(WRITTEN_AT, [FILLER] * self.n)
+        self.put(WRITTEN, [3 * self.n])
+        self.put(SCRATCH, [self.n * self.n])
+        self.put(TOTALS, [4])
+        self.lend_restore(ENOUGH, REPLAYED_BY_TABLE)
+        for table in TABLES:
+            self.add_plans(table)
+        for words in FOR_TABLE:
+            self.put(WRITTEN, [words])
+            self.make("built_in", 0, "%d words, " % words)
 
     def put_list(self, way, count):
         self.put(LIST_AT, worker_numbers(way % len(PATTERNS), self.n, count))
@@ -266,17 +329,17 @@ class Calls:
             positions = reference.step_call(self.log, plan, positions, worker)[1]
 
 
-def entries_of(content):
+def entries_of(content, with_tables):
     """The entries of a case, each a place and a value."""
-    return Calls(content).entries
+    return Calls(content, with_tables).entries
 
 
-def labelled(content):
+def labelled(content, with_tables):
     """The places of the actions of a case, each with its label."""
-    return Calls(content).labels
+    return Calls(content, with_tables).labels
 
 
-def listed(content):
+def listed(content, with_tables):
     """What standard input has for a case."""
-    entries = entries_of(content)
+    entries = entries_of(content, with_tables)
     return struct.pack("<I", len(entries)) + b"".join(struct.pack("<II", *entry) for entry in entries)

@@ -6,16 +6,16 @@ after = what it returned:
     NAME 8 vector      w0:1 w1:2 =0 lower_cut   w0:1 w1:2 2 3 999 999 999 =0
 
 A changed word has its kind, its number and what it holds after the call. The kinds are w, of a line, a cut or a plan, the
-answer of a test, or positions after steps; p, positions, and a, answers, of a list of steps; s, scratch, which is free after a
-success. The lower cut, the plan and `restore`, which is `restore_and_replay`, have their totals; 999 is one not written. So does
-`pack`, whose total is the bytes written; before it stand the bytes after `out:`, in hexadecimal, where one of them was changed:
-those lent and PAST more. A byte not written is a5.
+answer of a test, positions after steps, or the built-in table, whose call is `built_in`; p, positions, and a, answers, of a list
+of steps; s, scratch, which is free after a success. The lower cut, the plan and `restore`, which is `restore_and_replay`, have
+their totals; 999 is one not written. So does `pack`, whose total is the bytes written; before it stand the bytes after `out:`, in
+hexadecimal, where one of them was changed: those lent and PAST more. A byte not written is a5.
 """
 
 import reference
 from calls import (
     ALL_TOTALS, ANSWERS, ANSWERS_AT, BYTES, FILLER, LINE, LIST, LIST_AT, NAMES, POSITIONS, READ, READ_AT, ROOM, SCRATCH, SIZE,
-    TOTALS, WRITTEN, WRITTEN_AT, case_of, entries_of)
+    TABLE, TABLE_AT, TOTALS, WRITTEN, WRITTEN_AT, case_of, entries_of)
 
 UNTOUCHED = 999
 
@@ -86,23 +86,31 @@ class Made:
             self.log, self.part(READ, READ_AT), positions, self.part(LIST, LIST_AT), answers)
         return number, changes("w", positions, after) + changes("a", answers, left)
 
-    def search(self, call, worker):
+    def load_table(self, _):
+        return reference.load_table_call(self.part(TABLE, TABLE_AT)), ""
+
+    def built_in(self, _):
         words = self.part(WRITTEN, WRITTEN_AT)
-        number, *totals, after = call(self.log, worker, self.event, words, self.numbers[SCRATCH])
+        number, after = reference.built_in_table_call(words)
+        return number, changes("w", words, after)
+
+    def search(self, call, *asked):
+        words = self.part(WRITTEN, WRITTEN_AT)
+        number, *totals, after = call(self.log, *asked, words, self.numbers[SCRATCH])
         return number, changes("w", words, after) + totals_text([] if number else totals)
 
     def lower_cut(self, worker):
-        return self.search(reference.lower_cut_call, worker)
+        return self.search(reference.lower_cut_call, worker, self.event)
 
     def plan(self, worker):
-        return self.search(reference.plan_call, worker)
+        return self.search(reference.plan_call, worker, self.event, self.part(TABLE, TABLE_AT))
 
     def restore(self, worker):
         words, positions, answers = (
             self.part(WRITTEN, WRITTEN_AT), self.part(POSITIONS, WRITTEN_AT), self.part(ANSWERS, ANSWERS_AT))
         number, totals, plan, after, left = reference.restore_and_replay_call(
-            self.log, worker, self.event, self.part(LIST, LIST_AT), words, self.numbers[SCRATCH], positions, answers,
-            self.part_of_totals())
+            self.log, worker, self.event, self.part(LIST, LIST_AT), self.part(TABLE, TABLE_AT), words, self.numbers[SCRATCH],
+            positions, answers, self.part_of_totals())
         replayed = changes("p", positions, after) + changes("a", answers, left)
         return number, replayed + changes("w", words, plan) + totals_text(totals)
 
@@ -112,12 +120,12 @@ class Made:
         return number, bytes_text(lent, after) + totals_text(written)
 
 
-def case_lines(name, content):
+def case_lines(name, content, with_tables):
     """The lines of a case."""
     case = case_of(content)
     numbers = [FILLER] * SIZE
     text = name
-    for place, value in entries_of(content):
+    for place, value in entries_of(content, with_tables):
         numbers[place] = value
         if place < LINE:
             number, changed = getattr(Made(case, numbers), NAMES[place])(value)

@@ -14,7 +14,7 @@ import os
 import sys
 
 import reference
-from calls import IDENTIFIERS, listed
+from calls import BUILT_IN, IDENTIFIERS, ONES, RISING, THOUSANDS, listed
 from expected import case_lines
 from logs import Worker, build, case_file, cut_to, extended, in_form, packed, tube
 from reference import MARK, MAX_WORKERS
@@ -765,12 +765,18 @@ assert len(reference.figure2(reference.read(CONTENT["many_visits"][8:]), 0, 8)[1
 # ---- Accepted logs for the plan, the covering sets and the replay
 
 
+def units_and_words(log, worker, event, table):
+    """The units and the words of a plan by the reference."""
+    _, _, _, units, _, words = reference.plan_call(log, worker, event, table, [0] * (3 * MAX_WORKERS), MAX_WORKERS ** 2)
+    return units, words
+
+
 def plan_case(name, workers, worker, event, starts, identifiers=None, units=None, covering=(0,), cut=None):
     """A case whose starts and what else is given were worked out by hand."""
     log = workers if isinstance(workers, bytes) else build(workers)
     case(name, 0, log, worker, event, covering)
     reference.check_floor(reference.read(log), worker, event, name)
-    _, _, _, found_units, _, words = reference.plan_call(log, worker, event, [0] * (3 * MAX_WORKERS), MAX_WORKERS ** 2)
+    found_units, words = units_and_words(log, worker, event, BUILT_IN)
     n = len(starts)
     assert words[1:3 * n:3] == list(starts), "%s: starts %r by the reference" % (name, words[1:3 * n:3])
     assert identifiers in (None, words[2:3 * n:3]), "%s: identifiers %r by the reference" % (name, words[2:3 * n:3])
@@ -1195,12 +1201,34 @@ pack_case("withdrawn_in_another_order_with_gaps", [
 ], SCATTERED, form=2, event=3)
 
 
+# ---- Unit tables: the cases on which each of those of calls.py is tried
+
+WITH_TABLES = (
+    "tube_log", "tube_log_refused_3_1", "tube_log_refused_0_0", "two_workers", "form_0", "every_kind_in_every_role",
+    "units_of_role_0", "units_of_role_1", "units_of_role_2", "units_of_role_3",
+)
+
+# by hand: of RISING, whose words are 101 to 112, the sum of all; then three receives without data in role 0 and a send in each other
+# role. Of the cases by role, 1 send, 10 receives without data and 100 with it, and a send in role 0.
+for name, worker, event, table, units in (
+    ("every_kind_in_every_role", 0, 6, ONES, 18),
+    ("every_kind_in_every_role", 0, 6, THOUSANDS, 18000),
+    ("every_kind_in_every_role", 0, 6, RISING, 1278 + 3 * 102 + 104 + 107 + 110),
+    ("units_of_role_0", 0, 111, RISING, 101 + 1020 + 10300 + 101),
+    ("units_of_role_1", 0, 111, RISING, 104 + 1050 + 10600 + 101),
+    ("units_of_role_2", 0, 111, RISING, 107 + 1080 + 10900 + 101),
+    ("units_of_role_3", 0, 111, RISING, 110 + 1110 + 11200 + 101),
+):
+    found, _ = units_and_words(CONTENT[name][8:], worker, event, table)
+    assert found == units, "%s: units %d by the reference" % (name, found)
+
+
 def files():
     """The content of each file, by its path in the crate."""
     made = {os.path.join("data", name): content for name, content in CONTENT.items()}
     made["args"] = "".join(name + "\n" for name in CONTENT).encode()
-    made["stdin"] = b"".join(listed(content) for content in CONTENT.values())
-    made["stdout"] = "".join(case_lines(name, content) for name, content in CONTENT.items()).encode()
+    made["stdin"] = b"".join(listed(content, name in WITH_TABLES) for name, content in CONTENT.items())
+    made["stdout"] = "".join(case_lines(name, content, name in WITH_TABLES) for name, content in CONTENT.items()).encode()
     return made
 
 

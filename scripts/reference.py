@@ -1,10 +1,11 @@
 #!/usr/bin/env python3
-"""Document 01, and form 2, the packed logs, the covering test and the withdrawn checkpoints of document 02, written in Python
-from the definitions. The expected output of the stored cases comes from here.
+"""Document 01, and form 2, the packed logs, the covering test, the withdrawn checkpoints and the unit tables of document 02, written
+in Python from the definitions. The expected output of the stored cases comes from here.
 
     scripts/reference.py --check    the values T1 to T10, and on random small logs the definitions against brute force, the
-                                    floor that covering sets give the starts (document 02, note 4), and logs with withdrawn
-                                    checkpoints (note 6) against the same logs without these records
+                                    floor that covering sets give the starts (document 02, note 4), logs with withdrawn
+                                    checkpoints (note 6) against the same logs without these records, and plans with several
+                                    unit tables (note 7) against every rival
 
 An event is named by its worker and its index, (w, x). A cut, a choice's starts and positions are lists of one number for
 each worker.
@@ -30,8 +31,9 @@ MARK = 2 ** 31
 MAX_WORKERS = 64
 MAX_BYTES = 4194304
 
-# Units of an event by role, for kinds 1, 2 and 3.
+# Units of an event by role, for kinds 1, 2 and 3; and the same as a unit table of 12 words, role by role.
 UNITS = {0: (2, 3, 5), 1: (2, 4, 6), 2: (3, 8, 9), 3: (2, 5, 7)}
+BUILT_IN = [2, 3, 5, 2, 4, 6, 3, 8, 9, 2, 5, 7]
 
 Event = namedtuple("Event", "kind peer send stamp")
 Checkpoint = namedtuple("Checkpoint", "index identifier withdrawn")
@@ -353,9 +355,16 @@ def events_of(cut, starts):
     return sum(cut) - sum(starts)
 
 
-def units_of(log, cut, starts):
+def by_role(table):
+    """The words of a unit table by role, for kinds 1, 2 and 3."""
+    first, second, third, fourth = zip(*[iter(table)] * 3)
+    return {0: first, 1: second, 2: third, 3: fourth}
+
+
+def units_of(log, table, cut, starts):
+    units = by_role(table)
     return sum(
-        UNITS[log.roles[w]][event.kind - 1]
+        units[log.roles[w]][event.kind - 1]
         for w in range(log.n) for event in log.events[w][starts[w]:cut[w]]
     )
 
@@ -483,19 +492,30 @@ def cut_test_call(data, words):
     return 0, is_consistent(log, words[:log.n])
 
 
-def plan_call(data, worker, event, words, scratch):
+def load_table_call(table):
+    """Refusal: 27 for other than 12 words, or a word outside 1 to 1,000."""
+    return 0 if len(table) == 12 and all(1 <= word <= 1000 for word in table) else 27
+
+
+def built_in_table_call(table):
+    """Refusal, words."""
+    return (14, table) if len(table) < 12 else (0, onto(BUILT_IN, table))
+
+
+def plan_call(data, worker, event, table, words, scratch):
     """Refusal, visits, events, units, workers word, words. scratch is the number of scratch words."""
     try:
         log = read(data)
         check_breakpoint(log, worker, event)
         refuse_if(len(words) < 3 * log.n, 14)
         refuse_if(scratch < log.n * log.n, 15)
+        refuse_if(load_table_call(table) != 0, 27)
     except Refused as refused:
         return refused.number, 0, 0, 0, 0, words
     cut, visited = figure2(log, worker, event)
     starts = plan_starts(log, cut)
     new = onto(plan_words(log, cut, starts), words)
-    return 0, len(visited), events_of(cut, starts), units_of(log, cut, starts), workers_word(cut), new
+    return 0, len(visited), events_of(cut, starts), units_of(log, table, cut, starts), workers_word(cut), new
 
 
 def covers_call(data, identifier):
@@ -545,7 +565,7 @@ def steps_call(data, plan, positions, workers, answers):
     return 0, results[-1][1], onto([answer for answer, _ in results], answers)
 
 
-def restore_and_replay_call(data, worker, event, workers, words, scratch, positions, steps, totals):
+def restore_and_replay_call(data, worker, event, workers, table, words, scratch, positions, steps, totals):
     """Refusal, totals, words, positions, steps. scratch is the number of scratch words."""
     try:
         log = read(data)
@@ -553,9 +573,10 @@ def restore_and_replay_call(data, worker, event, workers, words, scratch, positi
         refuse_if(len(words) < 3 * log.n or len(positions) < log.n or len(totals) < 4, 14)
         refuse_if(len(steps) < len(workers) * (log.n + 1), 14)
         refuse_if(scratch < log.n * log.n, 15)
+        refuse_if(load_table_call(table) != 0, 27)
     except Refused as refused:
         return refused.number, totals, words, positions, steps
-    _, *found, plan = plan_call(data, worker, event, words, scratch)
+    _, *found, plan = plan_call(data, worker, event, table, words, scratch)
     results = step_calls(data, plan, onto(plan[1:3 * log.n:3], positions), workers)
     left = [word for answer, after in results for word in [answer] + after[:log.n]]
     return 0, onto(found, totals), plan, results[-1][1], onto(left, steps)
@@ -567,7 +588,8 @@ def printed(content):
         return "refused 1\n"
     worker, event = struct.unpack_from("<II", content)
     data = content[8:]
-    number, visits, events, units, workers, words = plan_call(data, worker, event, [0] * (3 * MAX_WORKERS), MAX_WORKERS ** 2)
+    number, visits, events, units, workers, words = plan_call(
+        data, worker, event, BUILT_IN, [0] * (3 * MAX_WORKERS), MAX_WORKERS ** 2)
     if number != 0:
         return "refused %d\n" % number
     log = read(data)
@@ -610,15 +632,37 @@ def check_tube():
     expect("T6", plan_starts(log, cut), [1, 1, 0])
     logged = read(logs.tube("logged"))
     expect("T7", plan_starts(logged, cut), [1, 1, 2])
-    expect("T7", (events_of(cut, [1, 1, 2]), units_of(logged, cut, [1, 1, 2])), (3, 13))
+    expect("T7", (events_of(cut, [1, 1, 2]), units_of(logged, BUILT_IN, cut, [1, 1, 2])), (3, 13))
     expect("T8", (is_consistent(log, cut), is_consistent(log, [2, 3, 1])), (True, False))
-    plan = plan_call(data, 0, 2, [9] * 10, 9)[5]
+    plan = plan_call(data, 0, 2, BUILT_IN, [9] * 10, 9)[5]
     expect("plan words", plan, [2, 1, 1, 3, 1, 1, 2, 0, 0, 9])
     expect("T9", step_call(data, plan, [1, 1, 0], 0), (22, [1, 1, 0]))
     expect("T10", covers(log, 0), True)
     expect("printed", printed(logs.case_file(0, 2, data)), PRINTED)
     latest = [2, 1, 1, 3, 1, 1, 2, 2, 1]
     expect("latest starts", step_call(data, latest, [1, 1, 2], 1), (23, [1, 1, 2]))
+
+
+# Unit tables that load, and others that do not.
+LOADED = [BUILT_IN, [1] * 12, [1000] * 12, list(range(1, 13)), [1000, 1] * 6]
+UNLOADED = [[], [1] * 11, [1] * 13, [0] + [1] * 11, [1] * 11 + [1001]]
+
+
+def check_loading():
+    """Unit tables, the answers worked out by hand."""
+    expect("built-in", by_role(BUILT_IN), UNITS)
+    expect("loaded", [load_table_call(table) for table in LOADED], [0] * 5)
+    expect("not loaded", [load_table_call(table) for table in UNLOADED], [27] * 5)
+    expect("two tables", load_table_call(BUILT_IN + BUILT_IN), 27)
+    for place in range(12):
+        for word, number in ((0, 27), (1, 0), (1000, 0), (1001, 27), (2 ** 32 - 1, 27)):
+            table = BUILT_IN[:place] + [word] + BUILT_IN[place + 1:]
+            expect("word %d in place %d" % (word, place), load_table_call(table), number)
+    # the plan of 0/2 of the tube log replays two sends in role 0, a send and a receive without its data in role 1, and such a receive
+    # in role 3
+    for place, units in enumerate((2003, 5, 5, 1004, 1004, 5, 5, 5, 5, 5, 1004, 5)):
+        table = [1000 if k == place else 1 for k in range(12)]
+        expect("units with word %d" % place, plan_call(logs.tube(), 0, 2, table, [9] * 9, 9)[3], units)
 
 
 def at_checkpoint_alone(log, starts):
@@ -697,7 +741,7 @@ def check_withdrawn():
         (data, [1, 1, 6, 0, 0, 5], [True, True, True, False, False]),
         (logs.in_form(data, FIRST_FORM), [1, 1, MARK + 7, 0, 0, 5], [True, True, True, False, True]),
     ):
-        expect("words", plan_call(data, 0, 1, [9] * 6, 4)[5], words)
+        expect("words", plan_call(data, 0, 1, BUILT_IN, [9] * 6, 4)[5], words)
         expect("sets", [covers(read(data), identifier) for identifier in (0, 5, 6, 7, MARK + 7)], covering)
 
 
@@ -856,14 +900,32 @@ def check_plan(log, data, i, e):
         if works(log, cut, choice):
             assert at_most(choice, starts)
             assert events_of(cut, choice) >= events_of(cut, starts)
-            assert units_of(log, cut, choice) >= units_of(log, cut, starts)
-    words = plan_call(data, i, e, [7] * (3 * log.n + 1), log.n * log.n)[5]
+            assert all(units_of(log, table, cut, choice) >= units_of(log, table, cut, starts) for table in LOADED)
+    words = check_tables(log, data, i, e)
     turns = list(range(log.n)) * (1 + events_of(cut, starts))
     results = step_calls(data, words, starts, turns)
     expect("all at their cuts", results[-1], (21, cut))
     answers = [answer for answer, _ in results]
     expect("steps done", answers.count(0), events_of(cut, starts))
     expect("steps", steps_call(data, words, starts, turns, [7] * len(turns)), (0, cut, answers))
+
+
+def check_tables(log, data, i, e):
+    """The plan with each table: they differ in the units alone, which are the events where each word is 1. The words are given."""
+    cut, _ = figure2(log, i, e)
+    starts = plan_starts(log, cut)
+    lent = [7] * (3 * log.n + 1)
+    _, visits, events, _, workers, words = plan_call(data, i, e, BUILT_IN, lent, log.n * log.n)
+    for table in LOADED:
+        units = units_of(log, table, cut, starts)
+        expect("plan", plan_call(data, i, e, table, lent, log.n * log.n), (0, visits, events, units, workers, words))
+    expect("units of 1", units_of(log, [1] * 12, cut, starts), events)
+    expect("units of 1,000", units_of(log, [1000] * 12, cut, starts), 1000 * events)
+    for table in UNLOADED:
+        expect("27", plan_call(data, i, e, table, lent, log.n * log.n), (27, 0, 0, 0, 0, lent))
+        expect("15 before 27", plan_call(data, i, e, table, lent, log.n * log.n - 1), (15, 0, 0, 0, 0, lent))
+        expect("14 before 15", plan_call(data, i, e, table, lent[2:], 0), (14, 0, 0, 0, 0, lent[2:]))
+    return words
 
 
 def every_identifier(log):
@@ -901,7 +963,8 @@ def check_floor(log, i, e, name="random log"):
 def every_call(data, n, worker, event, lent):
     """What each call gives on a log of n workers, with so many words lent of each kind, each of them 7."""
     words, workers = [7] * lent, [worker, 0, n - 1]
-    plan = plan_call(data, worker, event, words, lent)[5]
+    table = (LOADED + UNLOADED)[event % len(LOADED + UNLOADED)]
+    plan = plan_call(data, worker, event, BUILT_IN, words, lent)[5]
     positions = onto(plan[1:3 * n:3], words)
     return [
         vector_call(data, worker, event, words),
@@ -909,11 +972,11 @@ def every_call(data, n, worker, event, lent):
         lower_cut_call(data, worker, event, words, lent),
         cut_test_call(data, words),
         cut_test_call(data, plan[0:3 * n:3]),
-        plan_call(data, worker, event, words, lent),
+        plan_call(data, worker, event, table, words, lent),
         covers_call(data, event),
         step_call(data, plan, positions, worker),
         steps_call(data, plan, positions, workers, words),
-        restore_and_replay_call(data, worker, event, workers, words, lent, words, words, words),
+        restore_and_replay_call(data, worker, event, workers, table, words, lent, words, words, words),
     ]
 
 
@@ -1022,6 +1085,7 @@ def check():
     check_withdrawn()
     check_sets()
     check_limit()
+    check_loading()
     repeats, tried, lowered, floor = check_random(400)
     covering, at_checkpoint, more = check_random_sets(400)
     floor += more

@@ -6,6 +6,7 @@ use super::numbers::LIST_AT;
 use super::numbers::READ_AT;
 use super::numbers::ROOM;
 use super::numbers::SIZE;
+use super::numbers::TABLE_AT;
 use super::numbers::WRITTEN_AT;
 use super::numbers::part;
 use super::text;
@@ -16,15 +17,17 @@ use super::text::UNTOUCHED;
 use super::text::print_changes;
 
 // A new line has this number, and the calls have those below it.
-const LINE: usize = 11;
+const LINE: usize = 13;
 
 pub const ENTRIES: usize = LINE + 1;
 
 // The calls that write words of one kind. `value` is the worker, or the identifier of a covering set.
 fn run_one(log: &[u8], event: u32, given: [u32; SIZE], call: usize, value: u32) -> u32 {
     let mut read = given;
+    let mut loaded = given;
     let mut written = given;
     let words = part(&mut read, numbers::READ, READ_AT);
+    let table = part(&mut loaded, numbers::TABLE, TABLE_AT);
     let lent = part(&mut written, numbers::WRITTEN, WRITTEN_AT);
     let number = match call {
         0 => planner::log_refusal(log),
@@ -32,6 +35,8 @@ fn run_one(log: &[u8], event: u32, given: [u32; SIZE], call: usize, value: u32) 
         2 => planner::upper_line(log, value, event, lent),
         3 => planner::covers(log, value, lent),
         4 => planner::cut_test(log, words, lent),
+        11 => planner::load_table(table),
+        12 => planner::built_in_table(lent),
         _ => planner::step(log, words, lent, value),
     };
     print_changes(b'w', WRITTEN_AT, given, written);
@@ -75,13 +80,15 @@ fn print_search(
 
 // The lower cut or the plan.
 fn run_search(log: &[u8], event: u32, given: [u32; SIZE], is_plan: bool, worker: u32) -> u32 {
+    let mut loaded = given;
     let mut written = given;
     let mut scratch = given;
     let mut totals = [UNTOUCHED; TOTALS];
+    let table = part(&mut loaded, numbers::TABLE, TABLE_AT);
     let lent = part(&mut written, numbers::WRITTEN, WRITTEN_AT);
     let room = part(&mut scratch, numbers::SCRATCH, WRITTEN_AT);
     let number = if is_plan {
-        planner::plan(log, worker, event, lent, room, &mut totals)
+        planner::plan(log, worker, event, table, lent, room, &mut totals)
     } else {
         planner::lower_cut(log, worker, event, lent, room, &mut totals)
     };
@@ -92,17 +99,20 @@ fn run_search(log: &[u8], event: u32, given: [u32; SIZE], is_plan: bool, worker:
 // The plan, and the steps of a list from its starts.
 fn run_restore(log: &[u8], event: u32, given: [u32; SIZE], worker: u32) -> u32 {
     let mut list = given;
+    let mut loaded = given;
     let mut written = given;
     let mut scratch = given;
     let mut positions = given;
     let mut answers = given;
     let mut totals = [UNTOUCHED; TOTALS];
     let workers = part(&mut list, numbers::LIST, LIST_AT);
+    let table = part(&mut loaded, numbers::TABLE, TABLE_AT);
     let number = planner::restore_and_replay(
         log,
         worker,
         event,
         workers,
+        table,
         part(&mut written, numbers::WRITTEN, WRITTEN_AT),
         part(&mut scratch, numbers::SCRATCH, WRITTEN_AT),
         part(&mut positions, numbers::POSITIONS, WRITTEN_AT),

@@ -8,30 +8,35 @@ ghost use lib.ListN.{length};
 pub const FILLER: u32 = 900000;
 
 // The places of the counts. READ: the words of a cut or a plan that a call reads. WRITTEN: those that it writes, of a line, a cut or a plan,
-// the answer of a test, or the positions of a step. Then scratch, the positions and answers of a list of steps, totals, bytes, and the list.
-pub const READ: usize = 12;
+// the answer of a test, the positions of a step, or the built-in table. Then scratch, the positions and answers of a list of steps, totals,
+// bytes, the list, and the unit table.
+pub const READ: usize = 14;
 
-pub const WRITTEN: usize = 13;
+pub const WRITTEN: usize = 15;
 
-pub const SCRATCH: usize = 14;
+pub const SCRATCH: usize = 16;
 
-pub const POSITIONS: usize = 15;
+pub const POSITIONS: usize = 17;
 
-pub const ANSWERS: usize = 16;
+pub const ANSWERS: usize = 18;
 
-pub const TOTALS: usize = 17;
+pub const TOTALS: usize = 19;
 
-pub const BYTES: usize = 18;
+pub const BYTES: usize = 20;
 
-pub const LIST: usize = 19;
+pub const LIST: usize = 21;
 
-// The first places of the words that are read, of the list, of the words that are written, and of the answers of a list, which are beyond the
-// positions; with 8 words more than the largest log needs.
-pub const READ_AT: usize = 20;
+pub const TABLE: usize = 22;
+
+// The first places of the words that are read, of the list, of the unit table, of the words that are written, and of the answers of a list,
+// which are beyond the positions; with 8 words more than the largest log, or the longest table, needs.
+pub const READ_AT: usize = 23;
 
 pub const LIST_AT: usize = READ_AT + 3 * log::MAX_WORKERS + 8;
 
-pub const WRITTEN_AT: usize = LIST_AT + 8 * (log::MAX_WORKERS + 2);
+pub const TABLE_AT: usize = LIST_AT + 8 * (log::MAX_WORKERS + 2);
+
+pub const WRITTEN_AT: usize = TABLE_AT + 32;
 
 pub const ANSWERS_AT: usize = WRITTEN_AT + log::MAX_WORKERS + 8;
 

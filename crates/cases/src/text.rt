@@ -15,8 +15,8 @@ pub const GUARD: u8 = 165;
 pub const PAST: usize = 8;
 
 // The names of the calls, in WIDTH bytes each; the number of a call is its place among them.
-const NAMES: [u8; 11 * WIDTH] =
-    *b" log_refusal vector      upper_line  covers      cut_test    step        steps       lower_cut   plan        restore     pack       ";
+const NAMES: [u8; 13 * WIDTH] =
+    *b" log_refusal vector      upper_line  covers      cut_test    step        steps       lower_cut   plan        restore     pack        load_table  built_in   ";
 
 const WIDTH: usize = 12;
 
@@ -28,7 +28,7 @@ pub(crate) fn print_byte(byte: u8) {
 
 // Prints the name of a call.
 pub(crate) fn print_name(call: usize)
-    requires { ⌜ call < 11 ⌝ }
+    requires { ⌜ call < 13 ⌝ }
 {
     let from = WIDTH * call;
     io::write_all(STDOUT_FILENO, &NAMES[from..from + WIDTH]);

@@ -1,24 +1,27 @@
--- Later starts replay no more events and no more units, and both sums fit a 64-bit word.
+-- Later starts replay no more events and no more units; both sums fit a 64-bit word; and tables that agree give the same units.
 -- Assumes nothing.
 use mathlib.Core.Path.{_≡_, refl}
-use mathlib.Core.Bool.{Bool, true, false, cond, _&&_}
-use mathlib.Core.List.{List, [], _∷_}
-use Prim.Native.Nat.{ℕ, zero, suc, _+_, _*_, _^_, _<_, _≤_}
+use mathlib.Core.Bool.{Bool, true, false, cond}
+use mathlib.Core.Logic.{_≢_}
+use mathlib.Core.List.{List}
+use Prim.Native.Nat.{ℕ, _+_, _*_, _^_, _<_, _≤_}
 use native.Mathlib.Nat.{le-trans, mul-le-mul-right, mul-le-mul}
 use native.Mathlib.Omega.{arith}
 use borrow.Author.Tests.{leb-true, le-leb}
 use lib.Dec.{leb}
-use lib.ListN.{getD}
-use Rattle.ranges.proofs.Bools.{and-true-left, and-true-right}
-use Rattle.ranges.proofs.Sum.{sum-bound, sum-le}
+use Rattle.ranges.proofs.Sum.{sum-bound, sum-le, sum-same}
 use Rattle.log.specs.Limits.{maxWorkers, maxEvents}
 use Rattle.log.specs.declared.Kind.{Kind}
+use Rattle.log.specs.declared.Kind.the-variants.{Send, Unlogged, Logged, Rest}
 use Rattle.log.specs.Kind.{column}
-use Rattle.log.specs.Model.{Workers, workerCount, roleOf, eventOf}
+use Rattle.log.specs.Model.{Workers, workerCount, roleOf, eventCount, eventOf}
 use Rattle.accept.specs.WellFormed.{WellFormed}
+use Rattle.accept.proofs.Accepted.{known-kind}
 use Rattle.lent.specs.Lent.{at}
 use Rattle.causality.specs.Cut.{Within, IsCut}
-use Rattle.cost.specs.Cost.{replayed, eventsOf, Table, eventUnits, workerUnits, unitsOf, rows, builtIn}
+use Rattle.unit_table.specs.Table.{maxUnits, Table, tableOf, tableRefusal}
+use Rattle.unit_table.proofs.Loaded.{loaded-bound}
+use Rattle.cost.specs.Cost.{replayed, eventsOf, eventUnits, workerUnits, unitsOf}
 
 -- ---- later starts
 module _ (log : Workers) (cut a b : List ℕ) (later : Within a b) where
@@ -44,28 +47,17 @@ module _ (log : Workers) (cut a b : List ℕ) (later : Within a b) where
       (λ w h. sum-le (eventUnits table log b w) (eventUnits table log a w) (at cut w) (λ k l. event-units-fall table w k))
 
 -- ---- bounds
--- a test passes at every entry of a list ..
-abbrev every : {A : Type 0} → (A → Bool) → List A → Bool
-every p [] = true
-every p (x ∷ xs) = p x && every p xs
+-- the units of some events of one kind, by a loaded table
+pub product-few : (table : List ℕ) → tableRefusal table ≡ 0 → (n role : ℕ) (kind : Kind) (units : ℕ) → n ≤ maxEvents → units ≡ tableOf table role kind
+    → n * units ≤ maxEvents * maxUnits
+product-few table loaded n role kind units few q = let most : units ≤ maxUnits = rw q (loaded-bound table loaded role kind) in mul-le-mul few most
 
--- .. so it passes at each place, and past the end where it passes of the default
-every-at : {A : Type 0} (p : A → Bool) (d : A) → p d ≡ true → (xs : List A) (i : ℕ) → every p xs ≡ true → p (getD xs i d) ≡ true
-every-at p d past [] i e = past
-every-at p d past (x ∷ xs) zero e = and-true-left (p x) (every p xs) e
-every-at p d past (x ∷ xs) (suc i) e = every-at p d past xs i (and-true-right (p x) (every p xs) e)
-
-abbrev small : ℕ → Bool
-small x = leb x 9
-
--- no entry of the built-in table is above 9: one test of the whole table
-pub table-bound : (role : ℕ) (kind : Kind) → builtIn role kind ≤ 9
-unfolding builtIn
-table-bound role kind = leb-true _ 9 (every-at small 0 refl (getD rows role []) (column kind) (every-at (every small) [] refl rows role refl))
-
--- the units of some events of one kind
-pub product-few : (n role : ℕ) (kind : Kind) (units : ℕ) → n ≤ maxEvents → units ≡ builtIn role kind → n * units ≤ maxEvents * 9
-product-few n role kind units few q = let most : units ≤ 9 = rw q (table-bound role kind) in mul-le-mul few most
+-- a kind of the record table has a column
+known-column : (kind : Kind) → kind ≢ Rest → column kind < 3
+known-column Send h = omega arith
+known-column Unlogged h = omega arith
+known-column Logged h = omega arith
+known-column Rest h = absurd (h refl)
 
 module _ (log : Workers) (ok : WellFormed log) (cut : List ℕ) (isCut : IsCut log cut) (starts : List ℕ) where
   cut-bound : (w : ℕ) → at cut w ≤ maxEvents
@@ -93,10 +85,19 @@ module _ (log : Workers) (ok : WellFormed log) (cut : List ℕ) (isCut : IsCut l
       each w k true = most (roleOf log w) (eventOf log w (k + 1) .kind)
       each w k false = omega arith
 
-  -- by the built-in table, which has no entry above 9
-  pub built-in-bound : unitsOf builtIn log cut starts ≤ maxWorkers * (maxEvents * 9)
-  built-in-bound = let all = units-bound builtIn 9 table-bound in omega (arith, ok .few)
+  -- so they fit a 64-bit word where no entry is above 1,000
+  pub units-fit : (table : Table) → ((role : ℕ) (kind : Kind) → table role kind ≤ maxUnits) → unitsOf table log cut starts < 2 ^ 64
+  units-fit table most = let all = units-bound table maxUnits most in omega (arith, ok .few)
 
-  -- so they fit a 64-bit word
-  pub built-in-fits : unitsOf builtIn log cut starts < 2 ^ 64
-  built-in-fits = omega (arith, built-in-bound)
+  -- two tables that agree in the roles and kinds of a log give the same units
+  pub units-same : (a b : Table) → ((role : ℕ) (kind : Kind) → role < 4 → column kind < 3 → a role kind ≡ b role kind)
+      → unitsOf a log cut starts ≡ unitsOf b log cut starts
+  unfolding unitsOf workerUnits eventUnits
+  units-same a b same =
+      sum-same (workerUnits a log cut starts) (workerUnits b log cut starts) (workerCount log)
+      (λ w h.
+      sum-same (eventUnits a log starts w) (eventUnits b log starts w) (at cut w)
+      (λ k l.
+      let inside : k + 1 ≤ eventCount log w = omega (arith, isCut .within w) in
+      let known = known-column (eventOf log w (k + 1) .kind) (known-kind log ok w (k + 1) (omega arith) inside) in
+      rw (same (roleOf log w) (eventOf log w (k + 1) .kind) (omega (arith, ok .roles w)) known)))

@@ -17,7 +17,8 @@ use Rattle.log.specs.Limits.{maxEvents}
 use Rattle.accept.specs.WellFormed.{WellFormed}
 use Rattle.accept.proofs.Accepted.{known-kind}
 use Rattle.lent.specs.Lent.{at}
-use Rattle.cost.specs.Cost.{Table, eventUnits}
+use Rattle.unit_table.specs.Table.{Table}
+use Rattle.cost.specs.Cost.{eventUnits}
 use Rattle.cost.specs.Inner.Counted.{loggedOne, countedAs, countedUnits}
 
 module _ (table : Table) (log : Workers) (starts : List ℕ) (w : ℕ) where

@@ -15,9 +15,11 @@ use Rattle.accept.specs.Refusal.{logRefusal}
 use Rattle.accept.proofs.Accepted.{well-formed}
 use Rattle.lent.specs.Lent.{at}
 use Rattle.cost.specs.Words.{cutIn, startIn, cutsIn, startsIn}
-use Rattle.cost.specs.Cost.{replayed, eventsOf, workerUnits, unitsOf, builtIn}
+use Rattle.unit_table.specs.Table.{tableOf, tableRefusal}
+use Rattle.unit_table.proofs.Loaded.{loaded-bound}
+use Rattle.cost.specs.Cost.{replayed, eventsOf, workerUnits, unitsOf}
 use Rattle.cost.specs.Inner.Held.{IsHeld}
-use Rattle.cost.proofs.Costs.{events-fit, built-in-fits}
+use Rattle.cost.proofs.Costs.{events-fit, units-fit}
 
 module _ (log : Workers) (words : List ℕ) (w : ℕ) (h : w < workerCount log) where
   -- the words of a worker give it its cut ..
@@ -41,7 +43,7 @@ pub starts-are : (log : Workers) (words starts : List ℕ) → length starts ≡
 unfolding startsIn
 starts-are log words starts long same = sym (tabulate-list (startIn words) (workerCount log) 0 starts long (λ w h. sym (same w h)))
 
--- what held words give worker w, and the sums of the workers up to it
+-- what held words give worker w, and the sum of the events of the workers up to it
 pub record HeldWorker (log : Workers) (words : List ℕ) (w : ℕ) : Type 0 where
   pub wide : 3 * w + 3 ≤ length words
   -- its start is at most its cut, which is at most its event count
@@ -52,11 +54,9 @@ pub record HeldWorker (log : Workers) (words : List ℕ) (w : ℕ) : Type 0 wher
   pub events : sumBelow (replayed (cutsIn log words) (startsIn log words)) (w + 1)
       ≡ sumBelow (replayed (cutsIn log words) (startsIn log words)) w + (cutIn words w - startIn words w)
   pub events-fit : sumBelow (replayed (cutsIn log words) (startsIn log words)) (w + 1) < 2 ^ 64
-  pub units-fit : sumBelow (workerUnits builtIn log (cutsIn log words) (startsIn log words)) w
-      + workerUnits builtIn log (cutsIn log words) (startsIn log words) w < 2 ^ 64
 
 pub held-worker : (s words : List ℕ) → (logRefusal s ≡ 0) × IsHeld (workersOf s) words → (w : ℕ) → w < workerCount (workersOf s) → HeldWorker (workersOf s) words w
-unfolding replayed eventsOf unitsOf
+unfolding replayed eventsOf
 held-worker s words (accepted, held) w h =
     let log = workersOf s in
     let ok = well-formed s accepted in
@@ -64,7 +64,6 @@ held-worker s words (accepted, held) w h =
     let starts = startsIn log words in
     let mine = cuts-at log words w h in
     let within = held .isCut .within w in
-    let units = workerUnits builtIn log cut starts in
     let next : w + 1 ≤ workerCount log = omega arith in
     record {
       wide = omega (arith, held .long);
@@ -73,5 +72,19 @@ held-worker s words (accepted, held) w h =
       most = omega (arith, ok .events w);
       events = rw (sum-more (replayed cut starts) w, mine, starts-in-at log words w h);
       events-fit = omega (arith, sum-grows (replayed cut starts) (w + 1) (workerCount log) next, events-fit log ok cut (held .isCut) starts);
-      units-fit = omega (arith, sum-more units w, sum-grows units (w + 1) (workerCount log) next, built-in-fits log ok cut (held .isCut) starts);
     }
+
+-- the sum of the units of the workers up to it, by a loaded table
+pub held-units : (s words : List ℕ) → (logRefusal s ≡ 0) × IsHeld (workersOf s) words → (table : List ℕ) → tableRefusal table ≡ 0
+    → (w : ℕ) → w < workerCount (workersOf s)
+    → sumBelow (workerUnits (tableOf table) (workersOf s) (cutsIn (workersOf s) words) (startsIn (workersOf s) words)) w
+    + workerUnits (tableOf table) (workersOf s) (cutsIn (workersOf s) words) (startsIn (workersOf s) words) w < 2 ^ 64
+unfolding unitsOf
+held-units s words (accepted, held) table loaded w h =
+    let log = workersOf s in
+    let cut = cutsIn log words in
+    let starts = startsIn log words in
+    let units = workerUnits (tableOf table) log cut starts in
+    let next : w + 1 ≤ workerCount log = omega arith in
+    let all = units-fit log (well-formed s accepted) cut (held .isCut) starts (tableOf table) (loaded-bound table loaded) in
+    omega (arith, sum-more units w, sum-grows units (w + 1) (workerCount log) next)

@@ -1,15 +1,13 @@
 -- Events and units of document 01, "Plan": what a replay from given starts to the cut takes.
 -- Assumes nothing.
 use mathlib.Core.Bool.{cond}
-use mathlib.Core.List.{List, [], _∷_}
+use mathlib.Core.List.{List}
 use Prim.Native.Nat.{ℕ, _+_, _-_}
 use lib.Dec.{leb}
-use lib.ListN.{getD}
 use Rattle.ranges.specs.Fold.{sumBelow}
-use Rattle.log.specs.declared.Kind.{Kind}
-use Rattle.log.specs.Kind.{column}
 use Rattle.log.specs.Model.{Workers, workerCount, roleOf, eventOf}
 use Rattle.lent.specs.Lent.{at}
+use Rattle.unit_table.specs.Table.{Table}
 
 unfoldable pub replayed : List ℕ → List ℕ → ℕ → ℕ
 replayed cut starts w = at cut w - at starts w
@@ -17,10 +15,6 @@ replayed cut starts w = at cut w - at starts w
 -- "Events is the sum of cut minus start"
 unfoldable pub eventsOf : Workers → List ℕ → List ℕ → ℕ
 eventsOf log cut starts = sumBelow (replayed cut starts) (workerCount log)
-
--- units for a role and a kind
-abbrev pub Table : Type 0
-Table = ℕ → Kind → ℕ
 
 -- event k + 1 of worker w counts where it is after the start
 unfoldable pub eventUnits : Table → Workers → List ℕ → ℕ → ℕ → ℕ
@@ -32,11 +26,3 @@ workerUnits table log cut starts w = sumBelow (eventUnits table log starts w) (a
 -- "Units is the sum over replayed events of this table"
 unfoldable pub unitsOf : Table → Workers → List ℕ → List ℕ → ℕ
 unitsOf table log cut starts = sumBelow (workerUnits table log cut starts) (workerCount log)
-
--- "role 0 intake 2, 3, 5; role 1 cleaner 2, 4, 6; role 2 gap filler 3, 8, 9; role 3 summariser 2, 5, 7"
-abbrev pub rows : List (List ℕ)
-rows = (2 ∷ 3 ∷ 5 ∷ []) ∷ (2 ∷ 4 ∷ 6 ∷ []) ∷ (3 ∷ 8 ∷ 9 ∷ []) ∷ (2 ∷ 5 ∷ 7 ∷ []) ∷ []
-
--- "this table (send, receive without data, receive with data)"
-unfoldable pub builtIn : Table
-builtIn role kind = getD (getD rows role []) (column kind) 0

@@ -6,12 +6,12 @@ ghost use Prim.Native.Nat.{_+_, _*_, _<_, _≤_};
 ghost use lib.ListN.{length};
 ghost use Rattle.ranges.specs.Fold.{tabulate};
 ghost use Rattle.log.specs.Limits.{maxEvents};
-ghost use Rattle.log.specs.Kind.{column};
 ghost use Rattle.log.specs.Layout.{workersOf};
 ghost use Rattle.log.specs.Model.{workerCount};
 ghost use Rattle.accept.specs.Refusal.{logRefusal};
+ghost use Rattle.unit_table.specs.Table.{tableOf, tableRefusal};
 ghost use Rattle.cost.specs.Words.{cutIn, startIn, cutsIn, startsIn};
-ghost use Rattle.cost.specs.Cost.{eventsOf, builtIn, workerUnits, unitsOf};
+ghost use Rattle.cost.specs.Cost.{eventsOf, workerUnits, unitsOf};
 ghost use Rattle.cost.specs.Inner.Held.{IsHeld};
 ghost use Rattle.cost.specs.Inner.Counted.{countedAs, countedUnits};
 
@@ -43,18 +43,6 @@ pub fn write_starts(words: &[u32], positions: &mut [u32])
     }
 }
 
-// The units of an event: a row for each role, in it a send, a receive without its data, a receive with it.
-const UNITS: [[u64; 3]; 4] = [[2, 3, 5], [2, 4, 6], [3, 8, 9], [2, 5, 7]];
-
-// The units of a role and a kind.
-fn units_for(role: usize, kind: Kind) -> u64
-    requires { ⌜ (role < 4) × (column kind < 3) ⌝ }
-    ensures answer { λ r. ⌜ r ≡ builtIn role kind ⌝ }
-{
-    let column = log::column(kind) as usize;
-    UNITS[role][column]
-}
-
 // What a receive with its data adds to the sum of counts. A worker has fewer events: the remainder by it counts the receives without
 // their data, and the quotient those with it.
 const LOGGED_ONE: u64 = 4294967296;
@@ -72,21 +60,21 @@ fn counted_as(kind: Kind) -> u64
 }
 
 // The units of `events` events of a role, of which `unlogged` are receives without their data and `logged` receives with it.
-fn counted_units(role: usize, events: u32, unlogged: u64, logged: u64) -> u64
-    requires { ⌜ (role < 4) × (events ≤ maxEvents) × (unlogged + logged ≤ events) ⌝ }
-    ensures answer { λ r. ⌜ r ≡ countedUnits builtIn role events unlogged logged ⌝ }
+fn counted_units(table: &[u32], role: usize, events: u32, unlogged: u64, logged: u64) -> u64
+    requires { ⌜ (role < 4) × (events ≤ maxEvents) × (unlogged + logged ≤ events) × (tableRefusal (now table) ≡ 0) ⌝ }
+    ensures answer { λ r. ⌜ r ≡ countedUnits (tableOf (now (table .entry))) role events unlogged logged ⌝ }
 {
     let sends = events as u64 - (unlogged + logged);
-    sends * units_for(role, Kind::Send)
-        + unlogged * units_for(role, Kind::Unlogged)
-        + logged * units_for(role, Kind::Logged)
+    sends * unit_table::units_for(table, role, Kind::Send) as u64
+        + unlogged * unit_table::units_for(table, role, Kind::Unlogged) as u64
+        + logged * unit_table::units_for(table, role, Kind::Logged) as u64
 }
 
 // The units of the replayed events of worker w. One sum counts the receives of both kinds, whatever their order, and the table is read at
 // the end.
-fn worker_units(log: &[u8], words: &[u32], w: usize) -> u64
-    requires { ⌜ ((logRefusal (now log) ≡ 0) × IsHeld (workersOf (now log)) (now words)) × (w < workerCount (workersOf (now log))) ⌝ }
-    ensures answer { λ r. ⌜ r ≡ workerUnits builtIn (workersOf (now (log .entry)))
+fn worker_units(log: &[u8], table: &[u32], words: &[u32], w: usize) -> u64
+    requires { ⌜ ((logRefusal (now log) ≡ 0) × IsHeld (workersOf (now log)) (now words)) × (w < workerCount (workersOf (now log))) × (tableRefusal (now table) ≡ 0) ⌝ }
+    ensures answer { λ r. ⌜ r ≡ workerUnits (tableOf (now (table .entry))) (workersOf (now (log .entry)))
         (cutsIn (workersOf (now (log .entry))) (now (words .entry))) (startsIn (workersOf (now (log .entry))) (now (words .entry))) w ⌝ }
 {
     let cut = cut_in(words, w);
@@ -100,6 +88,7 @@ fn worker_units(log: &[u8], words: &[u32], w: usize) -> u64
         k += 1;
     }
     counted_units(
+        table,
         log::role_of(log, w) as usize,
         cut - start,
         counts % LOGGED_ONE,
@@ -107,17 +96,17 @@ fn worker_units(log: &[u8], words: &[u32], w: usize) -> u64
     )
 }
 
-// The units of all replayed events.
-pub fn units_of(log: &[u8], words: &[u32]) -> u64
-    requires { ⌜ (logRefusal (now log) ≡ 0) × IsHeld (workersOf (now log)) (now words) ⌝ }
-    ensures answer { λ r. ⌜ r ≡ unitsOf builtIn (workersOf (now (log .entry)))
+// The units of all replayed events, by a table that loads.
+pub fn units_of(log: &[u8], table: &[u32], words: &[u32]) -> u64
+    requires { ⌜ ((logRefusal (now log) ≡ 0) × IsHeld (workersOf (now log)) (now words)) × (tableRefusal (now table) ≡ 0) ⌝ }
+    ensures answer { λ r. ⌜ r ≡ unitsOf (tableOf (now (table .entry))) (workersOf (now (log .entry)))
         (cutsIn (workersOf (now (log .entry))) (now (words .entry))) (startsIn (workersOf (now (log .entry))) (now (words .entry))) ⌝ }
 {
     let n = log::worker_count(log);
     let mut units: u64 = 0;
     let mut w: usize = 0;
     while w < n {
-        units += worker_units(log, words, w);
+        units += worker_units(log, table, words, w);
         w += 1;
     }
     units

@@ -35,6 +35,14 @@ pub or-else-second : (a b : ℕ) → a ≡ 0 → orElse a b ≡ b
 unfolding orElse
 or-else-second a b h = rw (eq-eqb a 0 h)
 
+pub or-else-none : (a : ℕ) → orElse a 0 ≡ a
+unfolding orElse
+or-else-none a = go (eqb a 0) refl
+  where
+    go : (t : Bool) → eqb a 0 ≡ t → cond t 0 a ≡ a
+    go true q = sym (eqb-true a 0 q)
+    go false q = refl
+
 -- ---- 14
 pub words-ok : (lent needed : ℕ) → wordsRefusal lent needed ≡ 0 → needed ≤ lent
 unfolding wordsRefusal

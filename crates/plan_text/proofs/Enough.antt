@@ -24,6 +24,7 @@ use Rattle.upper_line.specs.Upper.{upperAt, upperLine}
 use Rattle.causality.proofs.Allowed.{breakpoint-ok}
 use Rattle.restore.specs.Plan.{planWords}
 use Rattle.restore.specs.declared.Totals.{Totals}
+use Rattle.unit_table.specs.Table.{builtIn}
 use Rattle.restore.specs.Calls.{foundPlan, planTotals}
 use Rattle.plan_text.specs.Text.{breakpointLine, processLines, totalsLine, foundText, refusedText, planText}
 
@@ -84,7 +85,7 @@ module _ (s : List ℕ) (w e : ℕ) where
   accepted-text accepted = rw accepted
 
   -- ---- the text of the words and totals
-  pub found-text : (words upper totals : List ℕ) → words ≡ planWords (workersOf s) (lowerCut (workersOf s) w e) → upper ≡ upperLine (workersOf s) w e → totals ≡ planTotals (foundPlan (workersOf s) w e)
+  pub found-text : (words upper totals : List ℕ) → words ≡ planWords (workersOf s) (lowerCut (workersOf s) w e) → upper ≡ upperLine (workersOf s) w e → totals ≡ planTotals (foundPlan builtIn (workersOf s) w e)
       → totalsLine (processLines (breakpointLine w e) (workersOf s) words upper (workerCount (workersOf s))) (getD totals 0 0) (getD totals 1 0) (getD totals 2 0) (getD totals 3 0)
       ≡ foundText (workersOf s) w e
   unfolding foundText planTotals

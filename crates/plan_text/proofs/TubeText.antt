@@ -20,7 +20,8 @@ use Rattle.lower_cut.specs.Workers.{bitOf, workersWord}
 use Rattle.choice.specs.Choice.{mayChoose, losesSend}
 use Rattle.restore.specs.Plan.{loses, workerLoses, someLoses, usable, indexIf, rolledBackAt, rolledBack, planStarts, standsAt, identifierOf, identifierAt, planWord, planWords}
 use Rattle.cost.specs.Words.{cutIn, startIn}
-use Rattle.cost.specs.Cost.{replayed, eventsOf, eventUnits, workerUnits, unitsOf, builtIn}
+use Rattle.unit_table.specs.Table.{builtIn}
+use Rattle.cost.specs.Cost.{replayed, eventsOf, eventUnits, workerUnits, unitsOf}
 use Rattle.plan_text.specs.Text.{ascii, spelled, decimal, withNumber, fourNumbers, breakpointLine, processLine, processLines, foundText, textOf}
 use Rattle.plan_text.proofs.Enough.{accepted-text}
 

@@ -18,6 +18,7 @@ use Rattle.accept.specs.Refusal.{given}
 use Rattle.lower_cut.specs.Figure2.{lowerCut}
 use Rattle.causality.specs.Refusals.{breakpointRefusal}
 use Rattle.upper_line.specs.Upper.{upperLine}
+use Rattle.unit_table.specs.Table.{builtIn}
 use Rattle.restore.specs.Calls.{foundPlan}
 use Rattle.restore.specs.Plan.{planWords}
 use Rattle.cost.specs.Words.{cutIn, startIn}
@@ -91,7 +92,7 @@ found-few : (log : Workers) (w e : ℕ) → workerCount log ≤ maxWorkers → l
 unfolding foundText
 found-few log w e h =
     let cut = lowerCut log w e in
-    let found = foundPlan log w e in
+    let found = foundPlan builtIn log w e in
     let first = breakpointLine w e in
     let lines = processLines first log (planWords log cut) (upperLine log w e) (workerCount log) in
     omega (arith, breakpoint-few w e, processes-few first log (planWords log cut) (upperLine log w e) (workerCount log), totals-few lines (found .visits) (found .events) (found .units) (found .workers))

@@ -14,6 +14,7 @@ use Rattle.accept.specs.Refusal.{Given, given}
 use Rattle.lower_cut.specs.Figure2.{lowerCut}
 use Rattle.causality.specs.Refusals.{breakpointRefusal}
 use Rattle.upper_line.specs.Upper.{upperLine}
+use Rattle.unit_table.specs.Table.{builtIn}
 use Rattle.restore.specs.Calls.{foundPlan}
 use Rattle.restore.specs.Plan.{planWords}
 use Rattle.cost.specs.Words.{cutIn, startIn}
@@ -75,7 +76,7 @@ totalsLine text visits events units workers =
 -- the text of an accepted log's breakpoint event
 unfoldable pub foundText : Workers → ℕ → ℕ → List ℕ
 foundText log w e =
-    let found = foundPlan log w e in
+    let found = foundPlan builtIn log w e in
     totalsLine (processLines (breakpointLine w e) log (planWords log (lowerCut log w e)) (upperLine log w e) (workerCount log))
     (found .visits) (found .events) (found .units) (found .workers)
 

@@ -4,13 +4,15 @@ ghost use mathlib.Core.Path.{_≡_};
 ghost use mathlib.Core.List.{[], _∷_, _++_};
 ghost use Prim.Native.Nat.{_+_, _*_, _<_, _≤_};
 ghost use lib.ListN.{length};
+ghost use Rattle.lent.specs.Lent.{wordsRefusal, unlessRefused};
 ghost use Rattle.log.specs.Layout.{workersOf};
 ghost use Rattle.log.specs.Model.{workerCount};
 ghost use Rattle.accept.specs.Refusal.{logRefusal, given};
 ghost use Rattle.lower_cut.specs.Figure2.{lowerCut};
-ghost use Rattle.causality.specs.Refusals.{breakpointRefusal};
+ghost use Rattle.causality.specs.Refusals.{breakpointRefusal, searchRefusal};
 ghost use Rattle.upper_line.specs.Upper.{upperLine};
 ghost use Rattle.restore.specs.Plan.{planWords};
+ghost use Rattle.unit_table.specs.Table.{builtIn};
 ghost use Rattle.restore.specs.Calls.{foundPlan, planTotals};
 ghost use Rattle.plan_text.specs.Text.{withNumber, ended, refusedText, breakpointLine, fourNumbers, wordsOf, processLine, processLines, totalsLine, foundText, planText, textOf};
 ghost use Rattle.plan_text.specs.Buffer.{Holds, Adds};
@@ -201,12 +203,32 @@ fn put_found(
     totals: &[u64],
 ) -> usize
     requires { ⌜ (breakpointRefusal (given (now log)) worker event ≡ 0) × (now words ≡ planWords (workersOf (now log)) (lowerCut (workersOf (now log)) worker event))
-        × (now upper ≡ upperLine (workersOf (now log)) worker event) × (now totals ≡ planTotals (foundPlan (workersOf (now log)) worker event)) ⌝ }
+        × (now upper ≡ upperLine (workersOf (now log)) worker event) × (now totals ≡ planTotals (foundPlan builtIn (workersOf (now log)) worker event)) ⌝ }
     ensures text { λ r. ⌜ Holds (now (out .entry)) (foundText (workersOf (now (log .entry))) worker event) (now (out .exit)) r ⌝ }
 {
     let a = put_breakpoint(out, worker, event);
     let b = put_processes(out, a, log, words, upper);
     put_totals(out, b, totals[0], totals[1], totals[2], totals[3])
+}
+
+// The plan of a breakpoint event, with the built-in table.
+fn built_in_plan(
+    log: &[u8],
+    worker: u32,
+    event: u32,
+    words: &mut [u32],
+    scratch: &mut [u32],
+    totals: &mut [u64],
+) -> u32
+    ensures answer { λ r. ⌜ r ≡ searchRefusal (given (now (log .entry))) worker event 3 (length (now (words .entry)))
+        (wordsRefusal (length (now (totals .entry))) 4) (length (now (scratch .entry))) ⌝ }
+    ensures words { λ r. ⌜ now (words .exit) ≡ unlessRefused r
+        (planWords (workersOf (now (log .entry))) (lowerCut (workersOf (now (log .entry))) worker event)) (now (words .entry)) ⌝ }
+    ensures totals { λ r. ⌜ now (totals .exit) ≡ unlessRefused r (planTotals (foundPlan builtIn (workersOf (now (log .entry))) worker event)) (now (totals .entry)) ⌝ }
+{
+    let mut table = [0u32; unit_table::TABLE_WORDS];
+    planner::built_in_table(&mut table);
+    planner::plan(log, worker, event, &table, words, scratch, totals)
 }
 
 // The text for a log, a worker and an event.
@@ -216,7 +238,7 @@ fn put_plan(out: &mut [u8], log: &[u8], worker: u32, event: u32) -> usize
     let mut words = [0u32; PLAN_WORDS];
     let mut scratch = [0u32; SCRATCH];
     let mut totals = [0u64; 4];
-    let refusal = planner::plan(log, worker, event, &mut words, &mut scratch, &mut totals);
+    let refusal = built_in_plan(log, worker, event, &mut words, &mut scratch, &mut totals);
     if refusal != 0 {
         return put_refused(out, refusal);
     }

@@ -12,12 +12,13 @@ use Rattle.accept.specs.Refusal.{given}
 use Rattle.accept.specs.WellFormed.{WellFormed}
 use Rattle.causality.specs.Happened.{IsEvent}
 use Rattle.lower_cut.specs.Figure2.{lowerCut}
-use Rattle.causality.specs.Refusals.{searchRefusal}
-use Rattle.causality.proofs.Allowed.{SearchLent, search-ok}
-use Rattle.restore.specs.Calls.{foundPlan, planTotals}
+use Rattle.causality.proofs.Allowed.{SearchLent}
+use Rattle.unit_table.specs.Table.{Table}
+use Rattle.restore.specs.Calls.{planRefusal, foundPlan, planTotals}
 use Rattle.restore.specs.Plan.{planStarts}
 use Rattle.cost.specs.Words.{startsIn}
 use Rattle.restore.proofs.Written.{plan-long}
+use Rattle.restore.proofs.PlanTable.{plan-ok}
 use Rattle.replay.specs.Machine.{listed, stepWords}
 use Rattle.replay.specs.Calls.{machineRun, machineAfter}
 use Rattle.replay.specs.Inner.State.{IsState}
@@ -30,18 +31,18 @@ use Rattle.planner.specs.Calls.{plannedWords, plannedRun, plannedAfter}
 use Rattle.planner.proofs.StepWords.{step-wide}
 
 -- what the call may use where it is not refused; the call of `plan` is then not refused either
-pub record RestoreLent (s : List ℕ) (w e calls words scratch positions steps totals : ℕ) : Type 0 where
+pub record RestoreLent (s : List ℕ) (w e calls : ℕ) (table : List ℕ) (words scratch positions steps totals : ℕ) : Type 0 where
   pub search : SearchLent s w e 3 words (roomRefusal (workersOf s) calls positions steps totals) scratch
-  pub planned : searchRefusal (given s) w e 3 words (wordsRefusal totals 4) scratch ≡ 0
+  pub planned : planRefusal (given s) w e table words (wordsRefusal totals 4) scratch ≡ 0
   pub placed : workerCount (workersOf s) ≤ positions
   pub stepped : calls * (workerCount (workersOf s) + 1) ≤ steps
 
-pub restore-ok : {s : List ℕ} {w e calls words scratch positions steps totals r : ℕ} → r ≡ restoreRefusal (given s) w e calls words scratch positions steps totals → r ≡ 0
-    → RestoreLent s w e calls words scratch positions steps totals
+pub restore-ok : {s : List ℕ} {w e calls : ℕ} {table : List ℕ} {words scratch positions steps totals r : ℕ} → r ≡ restoreRefusal (given s) w e calls table words scratch positions steps totals → r ≡ 0
+    → RestoreLent s w e calls table words scratch positions steps totals
 unfolding restoreRefusal roomRefusal
-restore-ok {s} {w} {e} {calls} {words} {scratch} {positions} {steps} {totals} found none =
+restore-ok {s} {w} {e} {calls} {table} {words} {scratch} {positions} {steps} {totals} found none =
     let n = workerCount (workersOf s) in
-    let search = search-ok found none in
+    let search = plan-ok found none .search in
     let room = search .line .rest in
     let first = or-else-zero (wordsRefusal totals 4) _ room in
     let second = or-else-zero (wordsRefusal positions n) (wordsRefusal steps (calls * (n + 1))) (first .1) in
@@ -85,20 +86,20 @@ module _ (log : Workers) (ok : WellFormed log) (i e : ℕ) (event : IsEvent log 
         rw ((rw (is) at stepped) ∙ from, size) (written 0 _ (listed stepWords (plannedRun log i e workers)) lent refl steps-long)
 
   -- demand 3 holds of the words named, of those that the call leaves
-  pub restored : (words words′ totals totals′ positions positions′ steps steps′ : List ℕ)
-      → words′ ≡ onto (plannedWords log i e) words → totals′ ≡ onto (planTotals (foundPlan log i e)) totals
+  pub restored : (table : Table) (words words′ totals totals′ positions positions′ steps steps′ : List ℕ)
+      → words′ ≡ onto (plannedWords log i e) words → totals′ ≡ onto (planTotals (foundPlan table log i e)) totals
       → positions′ ≡ onto (plannedAfter log i e workers) positions → steps′ ≡ onto (listed stepWords (plannedRun log i e workers)) steps
-      → Demand3 log i e workers (take 4 totals′) (take (3 * workerCount log) words′) (take (workerCount log) positions′) (take (length workers * (workerCount log + 1)) steps′)
+      → Demand3 log i e table workers (take 4 totals′) (take (3 * workerCount log) words′) (take (workerCount log) positions′) (take (length workers * (workerCount log + 1)) steps′)
   unfolding planTotals
-  restored words words′ totals totals′ positions positions′ steps steps′ a b c d =
+  restored table words words′ totals totals′ positions positions′ steps steps′ a b c d =
       rw (
         a,
         b,
         c,
         d,
-        named-words 4 (planTotals (foundPlan log i e)) totals refl,
+        named-words 4 (planTotals (foundPlan table log i e)) totals refl,
         named-words _ (plannedWords log i e) words (plan-long log (lowerCut log i e)),
         named-words _ (plannedAfter log i e workers) positions (after-long log ok i e event workers),
         named-words _ (listed stepWords (plannedRun log i e workers)) steps steps-long,
       )
-      (demand-3 log ok i e event workers)
+      (demand-3 log ok i e event table workers)

@@ -18,7 +18,8 @@ use Rattle.lower_cut.specs.Figure2.{turnIf, turn, visit, visitAt, beginning, fi
 use Rattle.upper_line.specs.Upper.{happened, upperAt, upperLine}
 use Rattle.choice.specs.Choice.{mayChoose, losesSend, lostAt, workerLost, isStartable}
 use Rattle.restore.specs.Plan.{loses, workerLoses, someLoses, usable, indexIf, rolledBackAt, rolledBack, planStarts}
-use Rattle.cost.specs.Cost.{replayed, eventsOf, eventUnits, workerUnits, unitsOf, builtIn}
+use Rattle.unit_table.specs.Table.{builtIn}
+use Rattle.cost.specs.Cost.{replayed, eventsOf, eventUnits, workerUnits, unitsOf}
 use Rattle.covering.specs.Covering.{isSet, cutOfAll, withoutSet, indexOf, setIndex, setStarts, coveringSet}
 use Rattle.replay.specs.Machine.{receiveAnswer, eventAnswer, answerOf}
 use Rattle.planner.specs.Tube.{tubeLogged, TubeTable}

@@ -13,11 +13,12 @@ use Rattle.pack.specs.Packed.{packedLength, packed}
 use Rattle.pack.specs.Calls.{packRefusal}
 use Rattle.causality.specs.Cut.{vector, isConsistent}
 use Rattle.causality.specs.Refusals.{lineRefusal, searchRefusal, testRefusal}
+use Rattle.unit_table.specs.Table.{tableOf}
 use Rattle.lower_cut.specs.Figure2.{lowerCut}
 use Rattle.lower_cut.specs.Calls.{foundCut, cutTotals}
 use Rattle.upper_line.specs.Upper.{upperLine}
 use Rattle.covering.specs.Covering.{coveringSet}
-use Rattle.restore.specs.Calls.{foundPlan, planTotals}
+use Rattle.restore.specs.Calls.{planRefusal, foundPlan, planTotals}
 use Rattle.replay.specs.Machine.{listed, answerWord, stepWords}
 use Rattle.replay.specs.Calls.{stepAnswer, stepAfter, stepsRefusal, restoreRefusal, machineRun, machineAfter}
 use Rattle.planner.specs.Calls.{wordOf, plannedWords, plannedRun, plannedAfter}
@@ -40,17 +41,18 @@ pub record Answers : Type 0 where
   -- `vector` and `upper_line`: of a worker, an event and the words
   pub vectorCall : ℕ → ℕ → List ℕ → Left
   pub upperLineCall : ℕ → ℕ → List ℕ → Left
-  -- `lower_cut` and `plan`: of a worker, an event, the words, the number of scratch words and the totals
+  -- `lower_cut` and `plan`: of a worker, an event, the unit table of a plan, the words, the number of scratch words and the totals
   pub lowerCutCall : ℕ → ℕ → List ℕ → ℕ → List ℕ → Left
-  pub planCall : ℕ → ℕ → List ℕ → ℕ → List ℕ → Left
+  pub planCall : ℕ → ℕ → List ℕ → List ℕ → ℕ → List ℕ → Left
   -- `cut_test`: of the words tested and the answer's; `covers`: of the identifier and the answer's words
   pub cutTestCall : List ℕ → List ℕ → Left
   pub coversCall : ℕ → List ℕ → Left
   -- `step`: of plan words, positions and a worker; `steps`: of plan words, positions, a list of workers and the answers
   pub stepCall : List ℕ → List ℕ → ℕ → Left
   pub stepsCall : List ℕ → List ℕ → List ℕ → List ℕ → Left
-  -- `restore_and_replay`: of a worker, an event, a list of workers, the words, the number of scratch words, the positions, the steps and the totals
-  pub restoreCall : ℕ → ℕ → List ℕ → List ℕ → ℕ → List ℕ → List ℕ → List ℕ → Left
+  -- `restore_and_replay`: of a worker, an event, a list of workers, a unit table, the words, the number of scratch words, the positions,
+  -- the steps and the totals
+  pub restoreCall : ℕ → ℕ → List ℕ → List ℕ → List ℕ → ℕ → List ℕ → List ℕ → List ℕ → Left
 
 abbrev pub answersTo : Given → Answers
 answersTo log =
@@ -61,9 +63,9 @@ answersTo log =
       lowerCutCall = λ w e words scratch totals.
           leavesBoth (searchRefusal log w e 1 (length words) (wordsRefusal (length totals) 2) scratch)
           (lowerCut (log .workers) w e) words (cutTotals (foundCut (log .workers) w e)) totals;
-      planCall = λ w e words scratch totals.
-          leavesBoth (searchRefusal log w e 3 (length words) (wordsRefusal (length totals) 4) scratch)
-          (plannedWords (log .workers) w e) words (planTotals (foundPlan (log .workers) w e)) totals;
+      planCall = λ w e table words scratch totals.
+          leavesBoth (planRefusal log w e table (length words) (wordsRefusal (length totals) 4) scratch)
+          (plannedWords (log .workers) w e) words (planTotals (foundPlan (tableOf table) (log .workers) w e)) totals;
       cutTestCall = λ words answer.
           leaves (testRefusal log words (length words) (wordsRefusal (length answer) 1))
           (wordOf (isConsistent (log .workers) (take (workerCount (log .workers)) words)) ∷ []) answer;
@@ -72,13 +74,13 @@ answersTo log =
       stepsCall = λ words positions workers answers.
           leavesBoth (stepsRefusal log words positions (wordsRefusal (length answers) (length workers)))
           (machineAfter (log .workers) words positions workers) positions (listed answerWord (machineRun (log .workers) words positions workers)) answers;
-      restoreCall = λ w e workers words scratch positions steps totals.
-          let r = restoreRefusal log w e (length workers) (length words) scratch (length positions) (length steps) (length totals) in
+      restoreCall = λ w e workers table words scratch positions steps totals.
+          let r = restoreRefusal log w e (length workers) table (length words) scratch (length positions) (length steps) (length totals) in
           record {
             answer = r;
             slices =
                 unlessRefused r (plannedWords (log .workers) w e) words ∷ unlessRefused r (plannedAfter (log .workers) w e workers) positions
-                ∷ unlessRefused r (listed stepWords (plannedRun (log .workers) w e workers)) steps ∷ unlessRefused r (planTotals (foundPlan (log .workers) w e)) totals ∷ [];
+                ∷ unlessRefused r (listed stepWords (plannedRun (log .workers) w e workers)) steps ∷ unlessRefused r (planTotals (foundPlan (tableOf table) (log .workers) w e)) totals ∷ [];
           };
     }
 

@@ -12,7 +12,8 @@ use Rattle.causality.specs.Cut.{vector, isConsistent}
 use Rattle.lower_cut.specs.Figure2.{figure2, lowerCut}
 use Rattle.upper_line.specs.Upper.{upperLine}
 use Rattle.restore.specs.Plan.{planStarts}
-use Rattle.cost.specs.Cost.{eventsOf, unitsOf, builtIn}
+use Rattle.unit_table.specs.Table.{builtIn}
+use Rattle.cost.specs.Cost.{eventsOf, unitsOf}
 use Rattle.covering.specs.Covering.{coveringSet}
 use Rattle.replay.specs.Machine.{answerOf}
 

@@ -23,11 +23,13 @@ ghost use Rattle.causality.specs.Refusals.{lineRefusal, searchRefusal, testRefu
 ghost use Rattle.lower_cut.specs.Calls.{foundCut, cutTotals};
 ghost use Rattle.covering.specs.Covering.{coveringSet, CoversWhenStartable};
 ghost use Rattle.covering.specs.Withdrawn.{CoversNoneWithdrawn};
-ghost use Rattle.restore.specs.Calls.{foundPlan, planTotals};
+ghost use Rattle.unit_table.specs.Table.{tableWords, tableOf, builtInWords, tableRefusal};
+ghost use Rattle.restore.specs.Calls.{planRefusal, foundPlan, planTotals};
 ghost use Rattle.restore.specs.Floor.{Floor};
 ghost use Rattle.restore.specs.Shown.{Shown};
+ghost use Rattle.restore.specs.AsBefore.{AsBefore};
 ghost use Rattle.replay.specs.Machine.{listed, answerWord, stepWords};
-ghost use Rattle.replay.specs.Calls.{stepAnswer, stepAfter, stepsRefusal, restoreRefusal, machineRun, machineAfter};
+ghost use Rattle.replay.specs.Calls.{stepAnswer, stepAfter, stepsRefusal, roomRefusal, restoreRefusal, machineRun, machineAfter};
 ghost use Rattle.replay.specs.Demand3.{Demand3};
 ghost use Rattle.planner.specs.Answers.{AnsweredAlike};
 ghost use Rattle.planner.specs.Calls.{wordOf, plannedWords, plannedRun, plannedAfter};
@@ -105,26 +107,52 @@ pub extern "C" fn lower_cut(
     0
 }
 
-// The plan of a breakpoint event; the totals are its visits, events, units and workers word.
+// 0 for a unit table that loads, else 27.
+#[no_mangle]
+pub extern "C" fn load_table(table: &[u32]) -> u32
+    ensures answer { λ r. ⌜ r ≡ tableRefusal (now (table .entry)) ⌝ }
+{
+    unit_table::table_refusal(table)
+}
+
+// Writes the 12 words of the built-in table.
+#[no_mangle]
+pub extern "C" fn built_in_table(table: &mut [u32]) -> u32
+    ensures answer { λ r. ⌜ r ≡ wordsRefusal (length (now (table .entry))) tableWords ⌝ }
+    ensures table { λ r. ⌜ now (table .exit) ≡ unlessRefused r builtInWords (now (table .entry)) ⌝ }
+    ensures loads { λ r. ⌜ (r ≡ 0 → tableRefusal (take tableWords (now (table .exit))) ≡ 0) ⌝ }
+{
+    let refusal = lent::words_refusal(table.len(), unit_table::TABLE_WORDS);
+    if refusal != 0 {
+        return refusal;
+    }
+    unit_table::write_built_in(&mut table[..unit_table::TABLE_WORDS]);
+    0
+}
+
+// The plan of a breakpoint event, with its units by the unit table; the totals are its visits, events, units and workers word.
 #[no_mangle]
 pub extern "C" fn plan(
     log: &[u8],
     worker: u32,
     event: u32,
+    table: &[u32],
     words: &mut [u32],
     scratch: &mut [u32],
     totals: &mut [u64],
 ) -> u32
-    ensures answer { λ r. ⌜ r ≡ searchRefusal (given (now (log .entry))) worker event 3 (length (now (words .entry)))
+    ensures answer { λ r. ⌜ r ≡ planRefusal (given (now (log .entry))) worker event (now (table .entry)) (length (now (words .entry)))
         (wordsRefusal (length (now (totals .entry))) 4) (length (now (scratch .entry))) ⌝ }
     ensures words { λ r. ⌜ now (words .exit) ≡ unlessRefused r (plannedWords (workersOf (now (log .entry))) worker event) (now (words .entry)) ⌝ }
-    ensures totals { λ r. ⌜ now (totals .exit) ≡ unlessRefused r (planTotals (foundPlan (workersOf (now (log .entry))) worker event)) (now (totals .entry)) ⌝ }
+    ensures totals { λ r. ⌜ now (totals .exit) ≡ unlessRefused r (planTotals (foundPlan (tableOf (now (table .entry))) (workersOf (now (log .entry))) worker event)) (now (totals .entry)) ⌝ }
     ensures kept { λ r. ⌜ KeptIfRefused r (now (scratch .entry)) (now (scratch .exit)) ⌝ }
     ensures floor { λ r. ⌜ (r ≡ 0 → Floor (workersOf (now (log .entry))) worker event (take (3 * workerCount (workersOf (now (log .entry)))) (now (words .exit)))) ⌝ }
     ensures shown { λ r. ⌜ (r ≡ 0 → Shown (logOf (now (log .entry))) (take (3 * workerCount (workersOf (now (log .entry)))) (now (words .exit)))) ⌝ }
+    ensures before { λ r. ⌜ (now (table .entry) ≡ builtInWords → AsBefore (given (now (log .entry))) worker event (length (now (words .entry)))
+        (wordsRefusal (length (now (totals .entry))) 4) (length (now (scratch .entry))) r (now (totals .entry)) (now (totals .exit))) ⌝ }
 {
     let others = lent::words_refusal(totals.len(), 4);
-    let found = restore::plan(log, worker, event, others, words, scratch);
+    let found = restore::plan(log, worker, event, table, others, words, scratch);
     let refusal = found.refusal;
     if refusal != 0 {
         return refusal;
@@ -215,30 +243,35 @@ pub extern "C" fn restore_and_replay(
     worker: u32,
     event: u32,
     workers: &[u32],
+    table: &[u32],
     words: &mut [u32],
     scratch: &mut [u32],
     positions: &mut [u32],
     steps: &mut [u32],
     totals: &mut [u64],
 ) -> u32
-    ensures answer { λ r. ⌜ r ≡ restoreRefusal (given (now (log .entry))) worker event (length (now (workers .entry))) (length (now (words .entry)))
+    ensures answer { λ r. ⌜ r ≡ restoreRefusal (given (now (log .entry))) worker event (length (now (workers .entry))) (now (table .entry)) (length (now (words .entry)))
         (length (now (scratch .entry))) (length (now (positions .entry))) (length (now (steps .entry))) (length (now (totals .entry))) ⌝ }
     ensures words { λ r. ⌜ now (words .exit) ≡ unlessRefused r (plannedWords (workersOf (now (log .entry))) worker event) (now (words .entry)) ⌝ }
-    ensures totals { λ r. ⌜ now (totals .exit) ≡ unlessRefused r (planTotals (foundPlan (workersOf (now (log .entry))) worker event)) (now (totals .entry)) ⌝ }
+    ensures totals { λ r. ⌜ now (totals .exit) ≡ unlessRefused r (planTotals (foundPlan (tableOf (now (table .entry))) (workersOf (now (log .entry))) worker event)) (now (totals .entry)) ⌝ }
     ensures kept { λ r. ⌜ KeptIfRefused r (now (scratch .entry)) (now (scratch .exit)) ⌝ }
     ensures positions { λ r. ⌜ now (positions .exit) ≡ unlessRefused r (plannedAfter (workersOf (now (log .entry))) worker event (now (workers .entry))) (now (positions .entry)) ⌝ }
     ensures steps { λ r. ⌜ now (steps .exit) ≡ unlessRefused r (listed stepWords (plannedRun (workersOf (now (log .entry))) worker event (now (workers .entry)))) (now (steps .entry)) ⌝ }
-    ensures demand3 { λ r. ⌜ (r ≡ 0 → Demand3 (workersOf (now (log .entry))) worker event (now (workers .entry)) (take 4 (now (totals .exit)))
+    ensures demand3 { λ r. ⌜ (r ≡ 0 → Demand3 (workersOf (now (log .entry))) worker event (tableOf (now (table .entry))) (now (workers .entry)) (take 4 (now (totals .exit)))
         (take (3 * workerCount (workersOf (now (log .entry)))) (now (words .exit))) (take (workerCount (workersOf (now (log .entry)))) (now (positions .exit)))
         (take (length (now (workers .entry)) * (workerCount (workersOf (now (log .entry))) + 1)) (now (steps .exit)))) ⌝ }
     ensures floor { λ r. ⌜ (r ≡ 0 → Floor (workersOf (now (log .entry))) worker event
         (take (3 * workerCount (workersOf (now (log .entry)))) (now (words .exit)))) ⌝ }
+    ensures before { λ r. ⌜ (now (table .entry) ≡ builtInWords → AsBefore (given (now (log .entry))) worker event
+        (length (now (words .entry))) (roomRefusal (workersOf (now (log .entry))) (length (now (workers .entry))) (length (now (positions .entry))) (length (now (steps .entry))) (length (now (totals .entry))))
+        (length (now (scratch .entry))) r (now (totals .entry)) (now (totals .exit))) ⌝ }
 {
     let refusal = replay::list::restore_refusal(
         log,
         worker,
         event,
         workers.len(),
+        table,
         words.len(),
         scratch.len(),
         positions.len(),
@@ -248,7 +281,7 @@ pub extern "C" fn restore_and_replay(
     if refusal != 0 {
         return refusal;
     }
-    plan(log, worker, event, words, scratch, totals);
+    plan(log, worker, event, table, words, scratch, totals);
     let n = log::worker_count(log);
     let planned = 3 * n;
     let stepped = workers.len() * (n + 1);

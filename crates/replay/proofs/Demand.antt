@@ -22,6 +22,7 @@ use Rattle.cost.specs.Words.{cutsIn, startsIn}
 use Rattle.restore.specs.Calls.{foundPlan, planTotals}
 use Rattle.restore.proofs.Written.{plan-cut, plan-shown, plan-cuts, plan-starts-in}
 use Rattle.restore.proofs.Latest.{AreLatest, plan-latest, plan-starts, plan-starts-latest}
+use Rattle.unit_table.specs.Table.{Table}
 use Rattle.cost.proofs.Costs.{events-fall, units-fall}
 use Rattle.replay.specs.Machine.{positionsAfter, listed, stepWords}
 use Rattle.replay.specs.Calls.{machineRun, machineAfter}
@@ -71,11 +72,11 @@ module _ (log : Workers) (ok : WellFormed log) (i e : ℕ) (event : IsEvent log 
   no-later : (other : List Checkpoint) → Rival log cut (planChoice log cut) other → Within (startsOf other) starts
   no-later other rival = works-within log cut consistent starts (latest .latest) other (rival .isChoice) (rival .works)
 
-  pub demand-3 : (workers : List ℕ)
-      → Demand3 log i e workers (planTotals (foundPlan log i e)) (planWords log cut) (machineAfter log (planWords log cut) starts workers)
+  pub demand-3 : (table : Table) (workers : List ℕ)
+      → Demand3 log i e table workers (planTotals (foundPlan table log i e)) (planWords log cut) (machineAfter log (planWords log cut) starts workers)
       (listed stepWords (machineRun log (planWords log cut) starts workers))
   unfolding foundPlan foundCut planTotals
-  demand-3 workers =
+  demand-3 table workers =
       record {
         planned = refl;
         counted = refl;
@@ -91,7 +92,5 @@ module _ (log : Workers) (ok : WellFormed log) (i e : ℕ) (event : IsEvent log 
         finished = rw (plan-held-cut, plan-held-starts) (at-cut-done log cut starts starts-long (latest .are .within) workers);
         latest = λ other rival.
             let later = no-later other (rw (plan-held-cut) at rival) in
-            rw (plan-held-cut, plan-held-starts) (later, events-fall log cut (startsOf other) starts later, units-fall log cut (startsOf other) starts later _);
-        cheapest = λ other rival table.
-            rw (plan-held-cut, plan-held-starts) (units-fall log cut (startsOf other) starts (no-later other (rw (plan-held-cut) at rival)) table);
+            rw (plan-held-cut, plan-held-starts) (later, events-fall log cut (startsOf other) starts later, units-fall log cut (startsOf other) starts later table);
       }

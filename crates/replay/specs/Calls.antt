@@ -9,7 +9,8 @@ use Rattle.ranges.specs.Fold.{anyBelow}
 use Rattle.lent.specs.Lent.{at, orElse, wordsRefusal}
 use Rattle.log.specs.Model.{Workers, workerCount, eventCount}
 use Rattle.accept.specs.Refusal.{Given}
-use Rattle.causality.specs.Refusals.{workerRefusal, searchRefusal}
+use Rattle.causality.specs.Refusals.{workerRefusal}
+use Rattle.restore.specs.Calls.{planRefusal}
 use Rattle.cost.specs.Words.{cutIn, startIn, cutsIn, startsIn}
 use Rattle.replay.specs.Machine.{Step, answerOf, movedBy, moved, run, positionsAfter}
 
@@ -70,6 +71,6 @@ roomRefusal log calls positions steps totals =
     orElse (wordsRefusal totals 4) (orElse (wordsRefusal positions (workerCount log)) (wordsRefusal steps (calls * (workerCount log + 1))))
 
 -- the plan's refusals, with these
-unfoldable pub restoreRefusal : Given → ℕ → ℕ → ℕ → ℕ → ℕ → ℕ → ℕ → ℕ → ℕ
-restoreRefusal log w e calls words scratch positions steps totals =
-    searchRefusal log w e 3 words (roomRefusal (log .workers) calls positions steps totals) scratch
+unfoldable pub restoreRefusal : Given → ℕ → ℕ → ℕ → List ℕ → ℕ → ℕ → ℕ → ℕ → ℕ → ℕ
+restoreRefusal log w e calls table words scratch positions steps totals =
+    planRefusal log w e table words (roomRefusal (log .workers) calls positions steps totals) scratch

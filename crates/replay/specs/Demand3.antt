@@ -14,7 +14,8 @@ use Rattle.lower_cut.specs.Figure2.{lowerCut}
 use Rattle.choice.specs.Choice.{IsChoice, startsOf}
 use Rattle.restore.specs.Plan.{planChoice, planWords}
 use Rattle.cost.specs.Words.{cutIn, cutsIn, startsIn}
-use Rattle.cost.specs.Cost.{Table, eventsOf, unitsOf, builtIn}
+use Rattle.unit_table.specs.Table.{Table}
+use Rattle.cost.specs.Cost.{eventsOf, unitsOf}
 use Rattle.restore.specs.Calls.{foundPlan, planTotals}
 use Rattle.replay.specs.Machine.{listed, stepWords, doneIn, AtCut, Works}
 use Rattle.replay.specs.Calls.{machineAnswer, machineRun, machineAfter}
@@ -29,12 +30,12 @@ pub record Rival (log : Workers) (cut : List ℕ) (chosen other : List Checkpoin
 abbrev pub choiceIn : Workers → List ℕ → List Checkpoint
 choiceIn log words = planChoice log (cutsIn log words)
 
--- demand 3, for the workers of an accepted log, breakpoint event e of worker i and a list of worker numbers: of the totals (visits, events,
--- units, workers word), the plan words, the position words and the words of the steps as they were left
-pub record Demand3 (log : Workers) (i e : ℕ) (workers totals words positions steps : List ℕ) : Type 0 where
+-- demand 3, for the workers of an accepted log, breakpoint event e of worker i, the table of the call and a list of worker numbers: of the
+-- totals (visits, events, units, workers word), the plan words, the position words and the words of the steps as they were left
+pub record Demand3 (log : Workers) (i e : ℕ) (table : Table) (workers totals words positions steps : List ℕ) : Type 0 where
   -- 1: "its words, identifiers too, visits, events and units are those of 01's definitions", and the workers word
   pub planned : words ≡ planWords log (lowerCut log i e)
-  pub counted : totals ≡ planTotals (foundPlan log i e)
+  pub counted : totals ≡ planTotals (foundPlan table log i e)
   -- 2: "an event is within the cut exactly when it is the breakpoint event or happened before it"
   pub within : (w x : ℕ) → IsEvent log w x → (x ≤ cutIn words w) ↔ (((w ≡ i) × (x ≡ e)) ⊎ HappenedBefore log w x i e)
   -- 3: "The visits made, as returned, number at most 1 + the receives within the cut"
@@ -51,10 +52,9 @@ pub record Demand3 (log : Workers) (i e : ℕ) (workers totals words positions s
   pub progress : AtCut log (cutsIn log words) positions ⊎ ((w : ℕ) × (w < workerCount log) × (machineAnswer log words positions w ≡ 0))
   -- .. "and all are there exactly when the steps done in the list number the events returned"
   pub finished : AtCut log (cutsIn log words) positions ↔ (doneIn (machineRun log words (startsIn log words) workers) ≡ at totals 1)
-  -- 6: every rival "starts no worker later and replays at least as many events and at least as many units", over any table
+  -- 6: every rival "starts no worker later and replays at least as many events and at least as many units"; "For every loaded table the
+  -- plan replays no more units than any rival choice"
   pub latest : (other : List Checkpoint) → Rival log (cutsIn log words) (choiceIn log words) other
       → Within (startsOf other) (startsIn log words)
       × (at totals 1 ≤ eventsOf log (cutsIn log words) (startsOf other))
-      × (at totals 2 ≤ unitsOf builtIn log (cutsIn log words) (startsOf other))
-  pub cheapest : (other : List Checkpoint) → Rival log (cutsIn log words) (choiceIn log words) other
-      → (table : Table) → unitsOf table log (cutsIn log words) (startsIn log words) ≤ unitsOf table log (cutsIn log words) (startsOf other)
+      × (at totals 2 ≤ unitsOf table log (cutsIn log words) (startsOf other))

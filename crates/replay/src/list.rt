@@ -81,24 +81,25 @@ fn room_refusal(log: &[u8], calls: usize, positions: usize, steps: usize, totals
     )
 }
 
-// The log's refusals, then 12 to 15, of a plan with a list of step calls.
+// The log's refusals, then 12 to 15 and 27, of a plan with a list of step calls.
 pub fn restore_refusal(
     log: &[u8],
     worker: u32,
     event: u32,
     calls: usize,
+    table: &[u32],
     words: usize,
     scratch: usize,
     positions: usize,
     steps: usize,
     totals: usize,
 ) -> u32
-    ensures answer { λ r. ⌜ r ≡ restoreRefusal (given (now (log .entry))) worker event calls words scratch positions steps totals ⌝ }
+    ensures answer { λ r. ⌜ r ≡ restoreRefusal (given (now (log .entry))) worker event calls (now (table .entry)) words scratch positions steps totals ⌝ }
 {
     let refusal = accept::accept(log);
     if refusal != 0 {
         return refusal;
     }
     let others = room_refusal(log, calls, positions, steps, totals);
-    causality::refusals::search_refusal(log, worker, event, 3, words, others, scratch)
+    restore::plan_refusal(log, worker, event, table, words, others, scratch)
 }

@@ -8,3 +8,4 @@ pub mod Finished
 pub mod Written
 pub mod Floor
 pub mod Shown
+pub mod PlanTable

@@ -2,4 +2,5 @@ pub mod Plan
 pub mod Calls
 pub mod Floor
 pub mod Shown
+pub mod AsBefore
 pub mod Inner

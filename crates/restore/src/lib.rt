@@ -13,11 +13,11 @@ ghost use Rattle.log.specs.Model.{workerCount};
 ghost use Rattle.accept.specs.Refusal.{logRefusal, given};
 ghost use Rattle.causality.specs.Happened.{IsEvent};
 ghost use Rattle.lower_cut.specs.Figure2.{lowerCut};
-ghost use Rattle.causality.specs.Refusals.{searchRefusal};
 ghost use Rattle.lower_cut.specs.Calls.{foundCut};
 ghost use Rattle.restore.specs.Plan.{planWords};
 ghost use Rattle.cost.specs.Words.{cutIn, cutsIn};
-ghost use Rattle.restore.specs.Calls.{foundPlan, planAnswer, planTotals};
+ghost use Rattle.unit_table.specs.Table.{tableOf, tableRefusal};
+ghost use Rattle.restore.specs.Calls.{planRefusal, foundPlan, planAnswer, planTotals};
 ghost use Rattle.restore.specs.Floor.{Floor};
 
 // What the plan returns beside its words.
@@ -54,10 +54,18 @@ fn cut_words(log: &[u8], i: usize, event: u32, words: &mut [u32], scratch: &mut 
 }
 
 // The plan of an event of worker i, with its numbers; scratch is a word for each worker.
-fn plan_found(log: &[u8], i: usize, event: u32, words: &mut [u32], scratch: &mut [u32]) -> Totals
+fn plan_found(
+    log: &[u8],
+    i: usize,
+    event: u32,
+    table: &[u32],
+    words: &mut [u32],
+    scratch: &mut [u32],
+) -> Totals
     requires { ⌜ (logRefusal (now log) ≡ 0) × (length (now words) ≡ 3 * workerCount (workersOf (now log)))
-        × (length (now scratch) ≡ workerCount (workersOf (now log))) × (i < workerCount (workersOf (now log))) × (IsEvent (workersOf (now log)) i event) ⌝ }
-    ensures answer { λ r. ⌜ r ≡ foundPlan (workersOf (now (log .entry))) i event ⌝ }
+        × (length (now scratch) ≡ workerCount (workersOf (now log))) × (i < workerCount (workersOf (now log))) × (IsEvent (workersOf (now log)) i event)
+        × (tableRefusal (now table) ≡ 0) ⌝ }
+    ensures answer { λ r. ⌜ r ≡ foundPlan (tableOf (now (table .entry))) (workersOf (now (log .entry))) i event ⌝ }
     ensures words { λ _. ⌜ now (words .exit) ≡ planWords (workersOf (now (log .entry))) (lowerCut (workersOf (now (log .entry))) i event) ⌝ }
 {
     let cut = cut_words(log, i, event, words, scratch);
@@ -66,9 +74,26 @@ fn plan_found(log: &[u8], i: usize, event: u32, words: &mut [u32], scratch: &mut
         refusal: 0,
         visits: cut.visits,
         events: cost::events_of(log, words),
-        units: cost::units_of(log, words),
+        units: cost::units_of(log, table, words),
         workers: cut.workers,
     }
+}
+
+// The log's refusals, then 12 to 15 and 27, of a plan into `words` lent words.
+pub fn plan_refusal(
+    log: &[u8],
+    worker: u32,
+    event: u32,
+    table: &[u32],
+    words: usize,
+    others: u32,
+    scratch: usize,
+) -> u32
+    ensures answer { λ r. ⌜ r ≡ planRefusal (given (now (log .entry))) worker event (now (table .entry)) words others scratch ⌝ }
+{
+    let search = causality::refusals::search_refusal(log, worker, event, 3, words, others, scratch);
+    let loading = unit_table::table_refusal(table);
+    lent::or_else(search, loading)
 }
 
 // The plan of event `event` of worker `worker`: its refusal, or the cut, the start and the identifier of each worker, with its numbers.
@@ -77,24 +102,25 @@ pub fn plan(
     log: &[u8],
     worker: u32,
     event: u32,
+    table: &[u32],
     others: u32,
     words: &mut [u32],
     scratch: &mut [u32],
 ) -> Totals
     ensures refused { λ r. ⌜ r .refusal
-        ≡ searchRefusal (given (now (log .entry))) worker event 3 (length (now (words .entry))) others (length (now (scratch .entry))) ⌝ }
-    ensures answer { λ r. ⌜ r ≡ planAnswer (r .refusal) (workersOf (now (log .entry))) worker event ⌝ }
+        ≡ planRefusal (given (now (log .entry))) worker event (now (table .entry)) (length (now (words .entry))) others (length (now (scratch .entry))) ⌝ }
+    ensures answer { λ r. ⌜ r ≡ planAnswer (r .refusal) (tableOf (now (table .entry))) (workersOf (now (log .entry))) worker event ⌝ }
     ensures words { λ r. ⌜ now (words .exit) ≡ unlessRefused (r .refusal)
         (planWords (workersOf (now (log .entry))) (lowerCut (workersOf (now (log .entry))) worker event)) (now (words .entry)) ⌝ }
     ensures kept { λ r. ⌜ KeptIfRefused (r .refusal) (now (scratch .entry)) (now (scratch .exit)) ⌝ }
     ensures floor { λ r. ⌜ (r .refusal ≡ 0 → Floor (workersOf (now (log .entry))) worker event
         (take (3 * workerCount (workersOf (now (log .entry)))) (now (words .exit)))) ⌝ }
 {
-    let refusal = causality::refusals::search_refusal(
+    let refusal = plan_refusal(
         log,
         worker,
         event,
-        3,
+        table,
         words.len(),
         others,
         scratch.len(),
@@ -114,6 +140,7 @@ pub fn plan(
         log,
         worker as usize,
         event,
+        table,
         &mut words[..all],
         &mut scratch[..n],
     )

@@ -4,7 +4,8 @@ use Prim.Native.Nat.{ℕ, _+_, _-_, _*_, _≤_}
 use native.Mathlib.Omega.{arith}
 use Rattle.log.specs.declared.Kind.the-variants.{Send, Unlogged, Logged}
 use Rattle.log.specs.Limits.{maxEvents}
-use Rattle.cost.specs.Cost.{builtIn}
+use Rattle.unit_table.specs.Table.{maxUnits, tableOf}
+use Rattle.unit_table.proofs.Loaded.{loaded-long}
 use Rattle.cost.specs.Inner.Counted.{countedUnits}
 use Rattle.cost.proofs.Costs.{product-few}
 use borrow.Author.Needs.{needs}
@@ -12,30 +13,39 @@ use Rattle.cost.proofs.counted_units.Statement.{statement}
 use Rattle.cost.proofs.counted_units.Tie as tie
 
 -- each product is small
-sends : (c : tie.Start) (units : ℕ) → units ≡ builtIn (c .args .role) Send → (c .args .events - (c .args .unlogged + c .args .logged)) * units ≤ maxEvents * 9
-sends c units q = product-few (c .args .events - (c .args .unlogged + c .args .logged)) _ Send units (omega (arith, c .pre .1)) q
+sends : (c : tie.Start) (units : ℕ) → units ≡ tableOf (c .args .table .now) (c .args .role) Send → (c .args .events - (c .args .unlogged + c .args .logged)) * units ≤ maxEvents * maxUnits
+sends c units q = product-few _ (c .pre .3) (c .args .events - (c .args .unlogged + c .args .logged)) _ Send units (omega (arith, c .pre .1)) q
 
-unlogged : (c : tie.Start) (units : ℕ) → units ≡ builtIn (c .args .role) Unlogged → c .args .unlogged * units ≤ maxEvents * 9
-unlogged c units q = product-few (c .args .unlogged) _ Unlogged units (omega (arith, c .pre .1)) q
+unlogged : (c : tie.Start) (units : ℕ) → units ≡ tableOf (c .args .table .now) (c .args .role) Unlogged → c .args .unlogged * units ≤ maxEvents * maxUnits
+unlogged c units q = product-few _ (c .pre .3) (c .args .unlogged) _ Unlogged units (omega (arith, c .pre .1)) q
 
-logged : (c : tie.Start) (units : ℕ) → units ≡ builtIn (c .args .role) Logged → c .args .logged * units ≤ maxEvents * 9
-logged c units q = product-few (c .args .logged) _ Logged units (omega (arith, c .pre .1)) q
+logged : (c : tie.Start) (units : ℕ) → units ≡ tableOf (c .args .table .now) (c .args .role) Logged → c .args .logged * units ≤ maxEvents * maxUnits
+logged c units q = product-few _ (c .pre .3) (c .args .logged) _ Logged units (omega (arith, c .pre .1)) q
+
+units-for-requires : tie.Need-units-for-requires
+units-for-requires c κs = let given = c .before .pre in (loaded-long _ (given .3), given .0, omega arith)
 
 mul-result : tie.Need-mul-result
-mul-result c = omega (arith, sends (c .before) _ (c .units-for .ensures))
+mul-result c = omega (arith, sends (c .before .before) _ (c .units-for .ensures))
+
+units-for-requires-2 : tie.Need-units-for-requires-2
+units-for-requires-2 c κs = let given = c .before .before .pre in (loaded-long _ (given .3), given .0, omega arith)
 
 mul-result-2 : tie.Need-mul-result-2
-mul-result-2 c = omega (arith, unlogged (c .before .before) _ (c .units-for2 .ensures))
+mul-result-2 c = omega (arith, unlogged (c .before .before .before) _ (c .units-for2 .ensures))
 
 add-result : tie.Need-add-result
-add-result c = omega (arith, sends (c .before .before) _ (c .before .units-for .ensures), unlogged (c .before .before) _ (c .units-for2 .ensures))
+add-result c = omega (arith, sends (c .before .before .before) _ (c .before .units-for .ensures), unlogged (c .before .before .before) _ (c .units-for2 .ensures))
+
+units-for-requires-3 : tie.Need-units-for-requires-3
+units-for-requires-3 c κs = let given = c .before .before .before .pre in (loaded-long _ (given .3), given .0, omega arith)
 
 mul-result-3 : tie.Need-mul-result-3
-mul-result-3 c = omega (arith, logged (c .before .before .before) _ (c .units-for3 .ensures))
+mul-result-3 c = omega (arith, logged (c .before .before .before .before) _ (c .units-for3 .ensures))
 
 add-result-2 : tie.Need-add-result-2
 add-result-2 c =
-    let start = c .before .before .before in
+    let start = c .before .before .before .before in
     omega (
       arith,
       sends start _ (c .before .before .units-for .ensures),
@@ -53,12 +63,15 @@ counted-units-spec =
     (tie.spec
     (λ c. search needs)
     (λ c. search needs)
-    (λ c κs. search needs)
+    units-for-requires
+    (λ c. search needs)
     mul-result
-    (λ c κs. search needs)
+    units-for-requires-2
+    (λ c. search needs)
     mul-result-2
     add-result
-    (λ c κs. search needs)
+    units-for-requires-3
+    (λ c. search needs)
     mul-result-3
     add-result-2
     returns)

@@ -3,7 +3,7 @@
 use Prim.Native.Nat.{ℕ, _+_, _-_, _*_}
 use Rattle.log.specs.declared.Kind.{Kind}
 use Rattle.log.specs.declared.Kind.the-variants.{Send, Unlogged, Logged, Rest}
-use Rattle.cost.specs.Cost.{Table}
+use Rattle.unit_table.specs.Table.{Table}
 
 -- what a receive with its data adds to a sum of counts: more than a worker has events
 abbrev pub loggedOne : ℕ

@@ -11,30 +11,30 @@ use Rattle.plan_text.proofs.Enough.{take-new, all-new, upper-long, tota
 use Rattle.plan_text.proofs.put_plan.Statement.{statement}
 use Rattle.plan_text.proofs.put_plan.Tie as tie
 
-plan-requires : tie.Need-plan-requires
-plan-requires c κs = search needs
+built-in-plan-requires : tie.Need-built-in-plan-requires
+built-in-plan-requires c κs = search needs
 
 put-refused-requires : tie.Need-put-refused-requires
 put-refused-requires c κs = search needs
 
 returns : tie.Need-returns
-returns c = rw (refused-text _ _ _ _ (c .before .before .before .before .before .before .before .before .plan .ensures .0 ∙ plan-number _ _ _) (c .before .before .before .before .if1 .taken)) (c .before .before .put-refused .ensures)
+returns c = rw (refused-text _ _ _ _ (c .before .before .before .before .before .before .before .before .built-in-plan .ensures .0 ∙ plan-number _ _ _) (c .before .before .before .before .if1 .taken)) (c .before .before .put-refused .ensures)
 
 upper-line-requires : tie.Need-upper-line-requires
 upper-line-requires c κs = search needs
 
 worker-count-requires : tie.Need-worker-count-requires
-worker-count-requires c κs = accepted-layout _ (breakpoint-ok refl (sym (plan-number _ _ _) ∙ sym (c .before .before .before .before .before .before .before .plan .ensures .0) ∙ c .before .before .before .if1 .left) .accepted)
+worker-count-requires c κs = accepted-layout _ (breakpoint-ok refl (sym (plan-number _ _ _) ∙ sym (c .before .before .before .before .before .before .before .built-in-plan .ensures .0) ∙ c .before .before .before .if1 .left) .accepted)
 
 slice-aggregate-put-found : tie.Need-slice-aggregate-put-found
-slice-aggregate-put-found c = sym (length-take-le _ _ (omega (arith, c .before .before .worker-count .ensures .1, c .before .before .before .before .before .before .before .before .before .before .plan .kept .1 .1 .1 .0)))
+slice-aggregate-put-found c = sym (length-take-le _ _ (omega (arith, c .before .before .worker-count .ensures .1, c .before .before .before .before .before .before .before .before .before .before .built-in-plan .kept .1 .1 .1 .0)))
 
 slice-aggregate-put-found-2 : tie.Need-slice-aggregate-put-found-2
 slice-aggregate-put-found-2 c = sym (length-take-le _ _ (omega (arith, c .before .before .before .worker-count .ensures .1, c .before .before .before .before .before .upper-line .kept .1 .1 .1 .0)))
 
 put-found-requires : tie.Need-put-found-requires
 put-found-requires c κs =
-    let planned = c .before .before .before .before .before .before .before .before .before .before .before .before .plan .ensures in
+    let planned = c .before .before .before .before .before .before .before .before .before .before .before .before .built-in-plan .ensures in
     let lined = c .before .before .before .before .before .before .upper-line .ensures in
     let none = c .before .before .before .before .before .before .before .before .if1 .left in
     let accepted = sym (plan-number _ _ _) ∙ sym (planned .0) ∙ none in
@@ -42,14 +42,14 @@ put-found-requires c κs =
       accepted,
       rw (planned .1 .0) (take-new _ _ _ _ none (plan-long _ _ ∙ ap (λ (k : ℕ). 3 * k) (sym n))),
       rw (lined .1) (take-new _ _ _ _ (lined .0 ∙ line-number _ _ _ 1 accepted) (upper-long _ _ _ ∙ sym n)),
-      rw (planned .1 .1 .0) (all-new _ _ _ none (totals-long _)),
+      rw (planned .1 .1) (all-new _ _ _ none (totals-long _)),
     )
 
 returns-2 : tie.Need-returns-2
 returns-2 c =
-    let accepted = sym (plan-number _ _ _) ∙ sym (c .before .before .before .before .before .before .before .before .before .before .before .before .before .before .before .plan .ensures .0) ∙ c .before .before .before .before .before .before .before .before .before .before .before .if1 .left in
+    let accepted = sym (plan-number _ _ _) ∙ sym (c .before .before .before .before .before .before .before .before .before .before .before .before .before .before .before .built-in-plan .ensures .0) ∙ c .before .before .before .before .before .before .before .before .before .before .before .if1 .left in
     rw (accepted-text _ _ _ accepted) (c .before .before .put-found .ensures)
 
 pub put-plan-spec : {M : Type 1} → statement M
 put-plan-spec =
-    tie.close (tie.spec (λ c. search needs) (λ c. search needs) (λ c. search needs) plan-requires put-refused-requires (λ c. search needs) returns (λ c. search needs) upper-line-requires worker-count-requires (λ c. search needs) (λ c. search needs) slice-aggregate-put-found (λ c. search needs) slice-aggregate-put-found-2 (λ c. search needs) put-found-requires (λ c. search needs) returns-2)
+    tie.close (tie.spec (λ c. search needs) (λ c. search needs) (λ c. search needs) built-in-plan-requires put-refused-requires (λ c. search needs) returns (λ c. search needs) upper-line-requires worker-count-requires (λ c. search needs) (λ c. search needs) slice-aggregate-put-found (λ c. search needs) slice-aggregate-put-found-2 (λ c. search needs) put-found-requires (λ c. search needs) returns-2)

@@ -1,7 +1,7 @@
 -- `planner::plan` meets its contract. Assumes nothing.
 use mathlib.Core.Path.{refl, sym, _∙_}
 use Rattle.lent.proofs.Lent.{words-ok, put-found, untouched}
-use Rattle.causality.proofs.Allowed.{search-ok}
+use Rattle.restore.proofs.PlanTable.{plan-ok, as-before}
 use Rattle.restore.specs.Calls.{planAnswer, planTotals}
 use Rattle.planner.proofs.Planned.{shown-left}
 use borrow.Author.Needs.{needs}
@@ -13,14 +13,16 @@ plan-requires c κs = search needs
 
 returns : tie.Need-returns
 returns c =
-    let called = c .before .before .before .before .before .plan .ensures in (
-      rw (← c .before .before .before .before .before .before .before .before .words-refusal .ensures) (called .0),
-      (called .1 .1 .0, (untouched _ _ _ (c .if1 .taken), (called .1 .1 .1 .0, ((λ none. absurd (c .if1 .taken none)), λ none. absurd (c .if1 .taken none))))),
+    let called = c .before .before .before .before .before .plan .ensures in
+    let no = c .if1 .taken in
+    let answer = rw (c .before .before .before .before .before .before .before .before .words-refusal .ensures) at (called .0) in (
+      answer,
+      (called .1 .1 .0, (untouched _ _ _ no, (called .1 .1 .1 .0, ((λ none. absurd (no none)), ((λ none. absurd (no none)), λ same. as-before _ _ _ _ _ _ _ _ _ _ answer (untouched _ _ _ no) same))))),
     )
 
 write-plan-requires : tie.Need-write-plan-requires
 write-plan-requires c κs =
-    let lent = search-ok (c .before .before .before .before .before .before .plan .ensures .0) (c .before .if1 .left) in
+    let lent = plan-ok (c .before .before .before .before .before .before .plan .ensures .0) (c .before .if1 .left) .search in
     words-ok _ _ (sym (c .before .before .before .before .before .before .before .before .before .words-refusal .ensures) ∙ lent .line .rest)
 
 same-length-5 : tie.Need-same-length-5
@@ -32,9 +34,11 @@ returns-2 c =
     let called = c .before .before .before .before .before .before .before .before .before .plan .ensures in
     let none = c .before .before .before .before .if1 .left in
     let found = rw (none) at (called .1 .0) in
-    let words = rw (none) at (called .1 .1 .0) in (
-      sym none ∙ rw (← c .before .before .before .before .before .before .before .before .before .before .before .before .words-refusal .ensures) (called .0),
-      (words, (put-found planTotals _ _ _ _ found (c .before .before .write-plan .ensures), ((λ no. absurd (no refl)), ((λ _. called .1 .1 .1 .1 none), λ _. shown-left _ _ _ _ _ words)))),
+    let words = rw (none) at (called .1 .1 .0) in
+    let answer = sym none ∙ (rw (c .before .before .before .before .before .before .before .before .before .before .before .before .words-refusal .ensures) at (called .0)) in
+    let totals = put-found planTotals _ _ _ _ found (c .before .before .write-plan .ensures) in (
+      answer,
+      (words, (totals, ((λ no. absurd (no refl)), ((λ _. called .1 .1 .1 .1 none), ((λ _. shown-left _ _ _ _ _ words), λ same. as-before _ _ _ _ _ _ _ _ _ _ answer totals same))))),
     )
 
 pub plan-spec : {M : Type 1} → statement M

@@ -6,22 +6,26 @@ use lib.ListN.{length, length-take}
 use lib.Seq.{length-take-le}
 use Rattle.lent.proofs.Lent.{put, untouched}
 use Rattle.accept.proofs.Accepted.{accepted-layout, well-formed}
+use Rattle.restore.proofs.PlanTable.{as-before}
+use Rattle.replay.specs.Calls.{restoreRefusal}
 use Rattle.planner.proofs.Restored.{RestoreLent, restore-ok, front-words, front-state, front-positions, front-steps, restored}
 use borrow.Author.Needs.{needs}
 use Rattle.planner.proofs.restore_and_replay.Statement.{statement}
 use Rattle.planner.proofs.restore_and_replay.Tie as tie
 
 returns : tie.Need-returns
+unfolding restoreRefusal
 returns c =
-    let no = c .if1 .taken in (
-      c .before .restore-refusal .ensures,
-      (untouched _ _ _ no, (untouched _ _ _ no, ((λ _. refl), (untouched _ _ _ no, (untouched _ _ _ no, ((λ none. absurd (no none)), λ none. absurd (no none))))))),
+    let no = c .if1 .taken in
+    let found = c .before .restore-refusal .ensures in (
+      found,
+      (untouched _ _ _ no, (untouched _ _ _ no, ((λ _. refl), (untouched _ _ _ no, (untouched _ _ _ no, ((λ none. absurd (no none)), ((λ none. absurd (no none)), λ same. as-before _ _ _ _ _ _ _ _ _ _ found (untouched _ _ _ no) same))))))),
     )
 
 -- what a call that is not refused may use
 lent : (c : tie.Else1)
-    → let given = c .before .before .before .before .before .before .before .before .before .args in
-    RestoreLent (given .log .now) (given .worker) (given .event) (length (given .workers .now)) (length (given .words .now)) (length (given .scratch .now))
+    → let given = c .before .before .before .before .before .before .before .before .before .before .args in
+    RestoreLent (given .log .now) (given .worker) (given .event) (length (given .workers .now)) (given .table .now) (length (given .words .now)) (length (given .scratch .now))
     (length (given .positions .now)) (length (given .steps .now)) (length (given .totals .now))
 lent c = restore-ok (c .before .restore-refusal .ensures) (c .if1 .left)
 
@@ -30,15 +34,15 @@ worker-count-requires c κs = accepted-layout _ (lent (c .before .before .before
 
 mul-stepped : tie.Need-mul-stepped
 mul-stepped c =
-    record { fits = lt-of-le-of-lt (rw (c .worker-count .ensures .0) (lent (c .before .before .before .before .before .before .before .before .before .before .before) .stepped)) (c .before .before .before .before .before .before .before .before .before .before .before .before .before .before .before .before .before .before .before .before .good .1 .1 .1 .1 .1 .1 .1 .0 .0) }
+    record { fits = lt-of-le-of-lt (rw (c .worker-count .ensures .0) (lent (c .before .before .before .before .before .before .before .before .before .before .before) .stepped)) (c .before .before .before .before .before .before .before .before .before .before .before .before .before .before .before .before .before .before .before .before .before .good .1 .1 .1 .1 .1 .1 .1 .1 .0 .0) }
 
 slice-reshare-prefix-replay-words : tie.Need-slice-reshare-prefix-replay-words
 slice-reshare-prefix-replay-words c =
-    omega (arith, c .before .before .before .before .before .before .before .plan .kept .1 .1 .1 .0, lent (c .before .before .before .before .before .before .before .before .before .before .before) .search .line .enough, c .worker-count .ensures .0)
+    omega (arith, c .before .before .before .before .before .before .before .plan .kept .1 .1 .1 .1 .0, lent (c .before .before .before .before .before .before .before .before .before .before .before) .search .line .enough, c .worker-count .ensures .0)
 
 slice-aggregate-replay-words : tie.Need-slice-aggregate-replay-words
 slice-aggregate-replay-words c =
-    simp length-take (omega (arith, c .before .before .before .before .before .before .before .before .plan .kept .1 .1 .1 .0, lent (c .before .before .before .before .before .before .before .before .before .before .before .before) .search .line .enough, c .before .worker-count .ensures .0))
+    simp length-take (omega (arith, c .before .before .before .before .before .before .before .before .plan .kept .1 .1 .1 .1 .0, lent (c .before .before .before .before .before .before .before .before .before .before .before .before) .search .line .enough, c .before .worker-count .ensures .0))
 
 slice-relend-prefix-replay-words : tie.Need-slice-relend-prefix-replay-words
 slice-relend-prefix-replay-words c = omega (arith, lent (c .before .before .before .before .before .before .before .before .before .before .before .before) .placed, c .before .worker-count .ensures .0)
@@ -70,6 +74,7 @@ same-length-4 : tie.Need-same-length-4
 same-length-4 c = search needs
 
 returns-2 : tie.Need-returns-2
+unfolding restoreRefusal
 returns-2 c =
     let given = lent (c .before .before .before .before .before .before .before .before .before .before .before .before .before .before .before .before .before .before .before) in
     let point = given .search .line .breakpoint in
@@ -86,9 +91,10 @@ returns-2 c =
     let found = c .before .before .before .before .before .before .before .before .before .before .before .before .before .before .before .before .before .before .before .before .restore-refusal .ensures in
     let none = c .before .before .before .before .before .before .before .before .before .before .before .before .before .before .before .before .before .before .before .if1 .left in
     let whole =
-    restored _ ok _ _ (point .event) _ _ _ _ _ _ _ _ _
+    restored _ ok _ _ (point .event) _ _ _ _ _ _ _ _ _ _
     (words ∙ sym (put 0 _ _ refl)) (totals ∙ sym (put 0 _ _ refl)) (positions ∙ sym (put 0 _ _ refl)) (steps ∙ sym (put 0 _ _ refl)) in
-    (sym none ∙ found, (words, (totals, ((λ no. absurd (no refl)), (positions, (steps, ((λ _. whole), λ _. planned .1 .1 .1 .1 .0 zero)))))))
+    let answer = sym none ∙ found in
+    (answer, (words, (totals, ((λ no. absurd (no refl)), (positions, (steps, ((λ _. whole), ((λ _. planned .1 .1 .1 .1 .0 zero), λ same. as-before _ _ _ _ _ _ _ _ _ _ answer totals same))))))))
 
 pub restore-and-replay-spec : {M : Type 1} → statement M
 restore-and-replay-spec =

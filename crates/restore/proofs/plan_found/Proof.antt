@@ -11,27 +11,27 @@ use Rattle.restore.proofs.plan_found.Tie as tie
 plan-into-requires : tie.Need-plan-into-requires
 plan-into-requires c κs =
     let found = c .before .before .before .before .before .before .cut-words in
-    let given = c .before .before .before .before .before .before .before .before .before .before .before .before .pre in
+    let given = c .before .before .before .before .before .before .before .before .before .before .before .before .before .pre in
     let isCut = lower-isCut _ _ _ (given .0) (given .4) in
     (given .0, found .kept .1 .1 .1 .0 ∙ given .1, found .kept .1 .1 .1 .1 .0 ∙ given .2, rw (found .ensures .1) isCut)
 
 events-of-requires : tie.Need-events-of-requires
 events-of-requires c κs =
     let cut = c .before .before .before .before .before .before .before .before .before .before .before .before in
-    let given = cut .before .before .before .before .before .before .pre in
+    let given = cut .before .before .before .before .before .before .before .pre in
     lower-held _ _ _ (given .0) (given .4) _ _ (c .before .before .before .before .before .plan-into .ensures) (cut .cut-words .ensures .1)
 
 units-of-requires : tie.Need-units-of-requires
 units-of-requires c κs =
     let cut = c .before .before .before .before .before .before .before .before .before .before .before .before .before .before in
-    let given = cut .before .before .before .before .before .before .pre in
-    lower-held _ _ _ (given .0) (given .4) _ _ (c .before .before .before .before .before .before .before .plan-into .ensures) (cut .cut-words .ensures .1)
+    let given = cut .before .before .before .before .before .before .before .pre in
+    (lower-held _ _ _ (given .0) (given .4) _ _ (c .before .before .before .before .before .before .before .plan-into .ensures) (cut .cut-words .ensures .1), given .5)
 
 returns : tie.Need-returns
 unfolding foundPlan
 returns c =
     let cut = c .before .before .before .before .before .before .before .before .before .before .before .before .before .before .before in
-    let given = cut .before .before .before .before .before .before .pre in
+    let given = cut .before .before .before .before .before .before .before .pre in
     let found = cut .cut-words .ensures in
     let words = c .before .before .before .before .before .before .before .before .plan-into .ensures ∙ ap (planWords _) (found .1) in
     let isCut = lower-isCut _ _ _ (given .0) (given .4) in

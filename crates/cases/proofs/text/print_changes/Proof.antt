@@ -9,7 +9,7 @@ abbrev Inv-loop : tie.InvT-loop
 Inv-loop mark from given left k₀ k = from ≤ k
 
 abbrev μ-loop : tie.MeasureT-loop
-μ-loop mark from given left k₀ k = maxWorkers * maxWorkers + 11 * maxWorkers + 52 - k
+μ-loop mark from given left k₀ k = maxWorkers * maxWorkers + 11 * maxWorkers + 87 - k
 
 pub print-changes-spec : {M : Type 1} → statement M
 print-changes-spec = tie.close (tie.spec Inv-loop μ-loop (λ c. omega arith) (λ c. omega arith) (λ c. omega arith) (λ c. omega arith) (λ c. omega arith) (λ c κs. tt) (λ c. omega arith) (λ c. omega arith) (λ c κs. tt) (λ c κs. tt) (λ c. omega arith) (λ c. omega arith) (λ c. omega arith) (λ c. tt))

@@ -1,6 +1,6 @@
 -- `replay::list::restore_refusal` meets its contract. Assumes nothing.
 use mathlib.Core.Path.{sym, _∙_}
-use Rattle.causality.proofs.Allowed.{refused-log}
+use Rattle.restore.proofs.PlanTable.{plan-refused-log}
 use Rattle.replay.specs.Calls.{restoreRefusal}
 use borrow.Author.Needs.{needs}
 use Rattle.replay.proofs.list.restore_refusal.Statement.{statement}
@@ -10,14 +10,14 @@ returns : tie.Need-returns
 unfolding restoreRefusal
 returns c =
     let is = c .before .accept .ensures in
-    is ∙ sym (refused-log _ _ _ _ _ _ _ (λ e. c .if1 .taken (is ∙ e)))
+    is ∙ sym (plan-refused-log _ _ _ _ _ _ _ (λ e. c .if1 .taken (is ∙ e)))
 
 room-refusal-requires : tie.Need-room-refusal-requires
 room-refusal-requires c κs = sym (c .before .accept .ensures) ∙ c .if1 .left
 
 returns-2 : tie.Need-returns-2
 unfolding restoreRefusal
-returns-2 c = rw (← c .before .room-refusal .ensures) (c .search-refusal .ensures)
+returns-2 c = rw (← c .before .room-refusal .ensures) (c .plan-refusal .ensures)
 
 pub restore-refusal-spec : {M : Type 1} → statement M
 restore-refusal-spec =

@@ -1,11 +1,11 @@
--- `cost::units_for` meets its contract. Assumes nothing.
-use Rattle.cost.specs.Cost.{builtIn}
+-- `unit_table::units_for` meets its contract. Assumes nothing.
 use borrow.Author.Needs.{needs}
-use Rattle.cost.proofs.units_for.Statement.{statement}
-use Rattle.cost.proofs.units_for.Tie as tie
+use Rattle.unit_table.specs.Table.{tableOf}
+use Rattle.unit_table.proofs.units_for.Statement.{statement}
+use Rattle.unit_table.proofs.units_for.Tie as tie
 
 returns : tie.Need-returns
-unfolding builtIn
+unfolding tableOf
 returns c = rw (c .before .column .ensures)
 
 pub units-for-spec : {M : Type 1} → statement M
