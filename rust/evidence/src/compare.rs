@@ -2,12 +2,13 @@
 //! before and behind.
 
 use crate::description::{
-    packed_length, worker_count, Description, MARK, MAX_LOG, MAX_WORKERS, PLAN_WORDS, SCRATCH_WORDS,
+    packed_length, worker_count, Description, MARK, MAX_LOG, MAX_WORKERS, SCRATCH_WORDS,
+    TABLE_WORDS,
 };
 use crate::failure::{self, Call, Difference, Meaning};
 use crate::random::Random;
-use crate::sides::{Arguments, EXPORTED, NAMES};
-use reference::Log;
+use crate::sides::{Arguments, EXPORTED, NAMES, REFERENCE};
+use reference::{Log, BUILT_IN};
 use restore_planner::calls;
 
 /// Guards on each side of lent words or bytes.
@@ -186,47 +187,45 @@ pub struct Lengths {
     pub totals: usize,
 }
 
-type WithTotals = fn(&[u8], u32, u32, &mut [u32], &mut [u32], &mut [u64]) -> u32;
+/// A call that writes words and totals, and is lent scratch.
+type WithTotals<'a> = &'a dyn Fn(&mut [u32], &mut [u32], &mut [u64]) -> u32;
 
-/// Compares a call that writes words and totals for an event.
+/// Compares a call that writes words and totals, given its arguments beside these.
 fn with_totals(
     (name, words, totals): (&'static str, Meaning, Meaning),
-    exported: WithTotals,
-    expected: WithTotals,
+    [exported, expected]: [WithTotals; 2],
     random: &mut Random,
-    (log, worker, event, lengths): (&[u8], u32, u32, Lengths),
+    (log, arguments): (&[u8], &[(&'static str, u64)]),
+    lengths: Lengths,
 ) -> u32 {
     let mut ours = (
         Lent::of(random, "words", words, lengths.words),
         Lent::words(random, "scratch", lengths.scratch),
         Lent::totals(random, totals, lengths.totals),
     );
-    let mut theirs = ours.clone();
-    let call = |function: WithTotals, lent: &mut (Lent<u32>, Lent<u32>, Lent<u64>)| {
-        let (words, scratch, totals) = (lent.0.lent(), lent.1.lent(), lent.2.lent());
-        let number = function(log, worker, event, words, scratch, totals);
-        lent.1.forget_if(number == 0);
-        number
-    };
-    let number = call(exported, &mut ours);
-    let other = call(expected, &mut theirs);
+    let (before, mut theirs) = (ours.clone(), ours.clone());
+    let number = exported(ours.0.lent(), ours.1.lent(), ours.2.lent());
+    let other = expected(theirs.0.lent(), theirs.1.lent(), theirs.2.lent());
+    let lent = [
+        ("words", lengths.words as u64),
+        ("scratch", lengths.scratch as u64),
+        ("totals", lengths.totals as u64),
+    ];
     let call = Call {
         name,
         random,
         log,
-        arguments: &[
-            ("worker", worker.into()),
-            ("event", event.into()),
-            ("words", lengths.words as u64),
-            ("scratch", lengths.scratch as u64),
-            ("totals", lengths.totals as u64),
-        ],
+        arguments: &[arguments, &lent].concat(),
     };
+    call.returned(number, other);
+    // Refused: nothing that is lent changes.
+    let mut expected = if number == 0 { theirs } else { before };
+    ours.1.forget_if(number == 0);
+    expected.1.forget_if(number == 0);
     call.same([
-        returned(number, other),
-        ours.0.difference(&theirs.0),
-        ours.1.difference(&theirs.1),
-        ours.2.difference(&theirs.2),
+        ours.0.difference(&expected.0),
+        ours.1.difference(&expected.1),
+        ours.2.difference(&expected.2),
     ]);
     number
 }
@@ -239,24 +238,80 @@ pub fn lower_cut(
     event: u32,
     lengths: Lengths,
 ) -> u32 {
+    let sides = [calls::lower_cut, reference::lower_cut].map(|call| {
+        move |words: &mut [u32], scratch: &mut [u32], totals: &mut [u64]| {
+            call(log, worker, event, words, scratch, totals)
+        }
+    });
     with_totals(
         ("lower_cut", Meaning::Plain, CUT_TOTALS),
-        calls::lower_cut,
-        reference::lower_cut,
+        [&sides[0], &sides[1]],
         random,
-        (log, worker, event, lengths),
+        (log, &[("worker", worker.into()), ("event", event.into())]),
+        lengths,
     )
 }
 
 /// Compares a plan.
-pub fn plan(random: &mut Random, log: &[u8], worker: u32, event: u32, lengths: Lengths) -> u32 {
+pub fn plan(
+    random: &mut Random,
+    log: &[u8],
+    worker: u32,
+    event: u32,
+    table: &[u32],
+    lengths: Lengths,
+) -> u32 {
+    let sides = [calls::plan, reference::plan].map(|call| {
+        move |words: &mut [u32], scratch: &mut [u32], totals: &mut [u64]| {
+            call(log, worker, event, table, words, scratch, totals)
+        }
+    });
+    let arguments = [
+        ("worker", worker.into()),
+        ("event", event.into()),
+        ("table", table.len() as u64),
+    ];
     with_totals(
         ("plan", Meaning::Plan, PLAN_TOTALS),
-        calls::plan,
-        reference::plan,
+        [&sides[0], &sides[1]],
         random,
-        (log, worker, event, lengths),
+        (log, &arguments),
+        lengths,
     )
+}
+
+/// Compares the loading of a unit table, which writes nothing.
+pub fn load_table(random: &mut Random, table: &[u32]) -> u32 {
+    let mut ours = Lent::holding(random, "table", table);
+    let before = ours.clone();
+    let number = calls::load_table(ours.lent());
+    let call = Call {
+        name: "load_table",
+        random,
+        log: &[],
+        arguments: &[("table", table.len() as u64)],
+    };
+    let other = reference::load_table(table);
+    call.same([returned(number, other), ours.difference(&before)]);
+    number
+}
+
+/// Compares the built-in table, with this many words lent.
+pub fn built_in_table(random: &mut Random, words: usize) -> u32 {
+    let mut ours = Lent::words(random, "table", words);
+    let (before, mut theirs) = (ours.clone(), ours.clone());
+    let number = calls::built_in_table(ours.lent());
+    let other = reference::built_in_table(theirs.lent());
+    let call = Call {
+        name: "built_in_table",
+        random,
+        log: &[],
+        arguments: &[("table", words as u64)],
+    };
+    // Refused: nothing that is lent changes.
+    let expected = if number == 0 { theirs } else { before };
+    call.same([returned(number, other), ours.difference(&expected)]);
+    number
 }
 
 /// Compares a cut test, with an answer of this many words.
@@ -444,6 +499,7 @@ pub fn restore_and_replay(
     worker: u32,
     event: u32,
     workers: &[u32],
+    table: &[u32],
     room: Room,
 ) -> Replayed {
     let n = worker_count(log);
@@ -455,6 +511,7 @@ pub fn restore_and_replay(
         worker,
         event,
         workers,
+        table,
         ours.words.lent(),
         ours.scratch.lent(),
         ours.positions.lent(),
@@ -466,6 +523,7 @@ pub fn restore_and_replay(
         worker,
         event,
         workers,
+        table,
         theirs.words.lent(),
         theirs.scratch.lent(),
         theirs.positions.lent(),
@@ -480,6 +538,7 @@ pub fn restore_and_replay(
             ("worker", worker.into()),
             ("event", event.into()),
             ("workers", workers.len() as u64),
+            ("table", table.len() as u64),
             ("words", room.words as u64),
             ("scratch", room.scratch as u64),
             ("positions", room.positions as u64),
@@ -718,6 +777,32 @@ pub fn event(random: &mut Random, log: &Log, worker: u32) -> u32 {
     }
 }
 
+/// A unit table that loads: the built-in one, one of the least and the largest words, or any.
+pub fn loaded_table(random: &mut Random) -> [u32; TABLE_WORDS] {
+    match random.below(6) {
+        0 => BUILT_IN,
+        1 => BUILT_IN.map(|_| random.pick(&[1, 1_000])),
+        _ => BUILT_IN.map(|_| random.within(1, 1_000) as u32),
+    }
+}
+
+/// A unit table: most often one that loads.
+pub fn table(random: &mut Random) -> Vec<u32> {
+    let mut table = loaded_table(random).to_vec();
+    match random.below(16) {
+        0 => {
+            let length = random.pick(&[0, 1, 11, 13, 24, 36]);
+            table.resize(length, 1);
+        }
+        1 => {
+            let place = random.below(TABLE_WORDS);
+            table[place] = random.pick(&[0, 1_001, 1 << 16 | 1, 1 << 31, u32::MAX]);
+        }
+        _ => (),
+    }
+    table
+}
+
 /// The state of a replay: plan words and positions.
 #[derive(Clone, Debug)]
 pub struct State {
@@ -730,19 +815,8 @@ pub struct State {
 impl State {
     /// The reference's plan of a breakpoint, at its starts.
     pub fn planned(log: &[u8], worker: u32, event: u32) -> Option<State> {
-        let mut plan = vec![0; PLAN_WORDS];
-        let number = reference::plan(
-            log,
-            worker,
-            event,
-            &mut plan,
-            &mut [0; SCRATCH_WORDS],
-            &mut [0; 4],
-        );
-        if number != 0 {
-            return None;
-        }
-        plan.truncate(3 * worker_count(log));
+        let planned = REFERENCE.planned(log, (worker, event), &BUILT_IN);
+        let (plan, _) = planned.ok()?;
         let positions = plan.chunks(3).map(|w| w[1]).collect();
         Some(State { plan, positions })
     }
@@ -843,6 +917,7 @@ pub struct Seen {
     numbers: Vec<u64>,
     restored: Vec<u64>,
     packed: Vec<u64>,
+    tables: Vec<u64>,
     finished: u64,
     unfinished: u64,
     refused_steps: u64,
@@ -894,6 +969,16 @@ impl Seen {
         has(&self.packed, numbers);
     }
 
+    /// Counts the number of a loading of a table or of the built-in one.
+    pub fn add_table(&mut self, number: u32) {
+        count(&mut self.tables, number);
+    }
+
+    /// Fails where no loading of a table, nor the built-in one, returned one of the numbers.
+    pub fn has_tables(&self, numbers: impl IntoIterator<Item = u32>) {
+        has(&self.tables, numbers);
+    }
+
     /// Counts the covering test of an identifier that all workers have, where some receive without its data is compared: it is after its
     /// worker's checkpoint, and its sender's checkpoint has events before it.
     pub fn add_set(&mut self, log: &Log, identifier: u32) {
@@ -932,8 +1017,9 @@ impl Seen {
     }
 }
 
-/// Compares every call on a log, each with arguments of any value.
+/// Compares every call on a log, each with arguments of any value, and those on unit tables.
 pub fn every_call(random: &mut Random, log: &[u8], seen: &mut Seen) {
+    tables(random, seen);
     seen.add(log_refusal(random, log));
     match reference::accept(log) {
         Ok(accepted) => {
@@ -945,6 +1031,14 @@ pub fn every_call(random: &mut Random, log: &[u8], seen: &mut Seen) {
         }
         Err(number) => refused(random, log, number, seen),
     }
+}
+
+/// Compares the loading of a table, and the built-in table with enough words or fewer.
+fn tables(random: &mut Random, seen: &mut Seen) {
+    let table = table(random);
+    seen.add_table(load_table(random, &table));
+    let words = length(random, TABLE_WORDS);
+    seen.add_table(built_in_table(random, words));
 }
 
 /// Compares every call on a log that is refused by this number: each call gives it before its own numbers, and nothing that is lent
@@ -985,13 +1079,13 @@ fn refused_at_event(
         totals: random.below(5),
     };
     let list: Vec<u32> = (0..random.below(4)).map(|_| random.word()).collect();
-    let room = Room::any(random, n, list.len());
-    let replayed = restore_and_replay(random, log, worker, event, &list, room);
+    let (table, room) = (table(random), Room::any(random, n, list.len()));
+    let replayed = restore_and_replay(random, log, worker, event, &list, &table, room);
     [
         ("vector", vector(random, log, worker, event, n)),
         ("upper_line", upper_line(random, log, worker, event, n)),
         ("lower_cut", lower_cut(random, log, worker, event, lengths)),
-        ("plan", plan(random, log, worker, event, lengths)),
+        ("plan", plan(random, log, worker, event, &table, lengths)),
         ("restore_and_replay", replayed.number()),
     ]
 }
@@ -1040,7 +1134,8 @@ fn events(random: &mut Random, log: &[u8], accepted: &Log, seen: &mut Seen) {
             scratch: length(random, n * n),
             totals: length(random, 4),
         };
-        seen.add(plan(random, log, w, e, lengths));
+        let table = table(random);
+        seen.add(plan(random, log, w, e, &table, lengths));
     }
 }
 
@@ -1074,8 +1169,9 @@ fn replays(random: &mut Random, log: &[u8], accepted: &Log, seen: &mut Seen) {
         let w = worker(random, accepted);
         let e = event(random, accepted, w);
         let list = list(random, log, accepted, (w, e));
+        let table = table(random);
         let room = Room::any(random, accepted.size(), list.len());
-        seen.add_replayed(restore_and_replay(random, log, w, e, &list, room));
+        seen.add_replayed(restore_and_replay(random, log, w, e, &list, &table, room));
     }
 }
 

@@ -14,6 +14,9 @@ pub const PLAN_WORDS: usize = 3 * MAX_WORKERS;
 /// The scratch words that it needs.
 pub const SCRATCH_WORDS: usize = MAX_WORKERS * MAX_WORKERS;
 
+/// The words of a unit table.
+pub const TABLE_WORDS: usize = 12;
+
 /// The top bit of an identifier word, which in form 2 marks a withdrawn checkpoint.
 pub const MARK: u32 = 1 << 31;
 

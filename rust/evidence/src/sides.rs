@@ -1,15 +1,23 @@
 //! The calls of both sides, the exported functions and the reference, and what they give for the same arguments.
 
-use crate::compare::{event, length, worker, State, MOST_BYTES};
-use crate::description::{packed_length, MARK, MAX_LOG, SCRATCH_WORDS};
+use crate::compare::{event, length, table, worker, State, MOST_BYTES};
+use crate::description::{
+    packed_length, worker_count, MARK, MAX_LOG, MAX_WORKERS, SCRATCH_WORDS, TABLE_WORDS,
+};
 use crate::random::Random;
-use reference::Log;
+use reference::{Log, BUILT_IN};
 use restore_planner::calls;
 
 /// A call that writes a line of n words for an event.
 pub type Line = fn(&[u8], u32, u32, &mut [u32]) -> u32;
-/// A call that writes words and totals for an event, and is lent scratch.
-pub type WithTotals = fn(&[u8], u32, u32, &mut [u32], &mut [u32], &mut [u64]) -> u32;
+/// The lower cut.
+pub type LowerCut = fn(&[u8], u32, u32, &mut [u32], &mut [u32], &mut [u64]) -> u32;
+/// The loading of a unit table.
+pub type LoadTable = fn(&[u32]) -> u32;
+/// The built-in table.
+pub type BuiltInTable = fn(&mut [u32]) -> u32;
+/// The plan, with a unit table.
+pub type Plan = fn(&[u8], u32, u32, &[u32], &mut [u32], &mut [u32], &mut [u64]) -> u32;
 /// The cut test.
 pub type CutTest = fn(&[u8], &[u32], &mut [u32]) -> u32;
 /// The covering test.
@@ -18,9 +26,19 @@ pub type Covers = fn(&[u8], u32, &mut [u32]) -> u32;
 pub type Step = fn(&[u8], &[u32], &mut [u32], u32) -> u32;
 /// A list of steps.
 pub type Steps = fn(&[u8], &[u32], &mut [u32], &[u32], &mut [u32]) -> u32;
-/// A plan with a list of steps.
-pub type RestoreAndReplay =
-    fn(&[u8], u32, u32, &[u32], &mut [u32], &mut [u32], &mut [u32], &mut [u32], &mut [u64]) -> u32;
+/// A plan with a list of steps, and with a unit table.
+pub type RestoreAndReplay = fn(
+    &[u8],
+    u32,
+    u32,
+    &[u32],
+    &[u32],
+    &mut [u32],
+    &mut [u32],
+    &mut [u32],
+    &mut [u32],
+    &mut [u64],
+) -> u32;
 
 /// The packing of a log.
 pub type Pack = fn(&[u8], &mut [u8], &mut [u64]) -> u32;
@@ -32,8 +50,10 @@ pub struct Calls {
     pub log_refusal: fn(&[u8]) -> u32,
     pub vector: Line,
     pub upper_line: Line,
-    pub lower_cut: WithTotals,
-    pub plan: WithTotals,
+    pub lower_cut: LowerCut,
+    pub load_table: LoadTable,
+    pub built_in_table: BuiltInTable,
+    pub plan: Plan,
     pub cut_test: CutTest,
     pub covers: Covers,
     pub step: Step,
@@ -48,6 +68,8 @@ pub const EXPORTED: Calls = Calls {
     vector: calls::vector,
     upper_line: calls::upper_line,
     lower_cut: calls::lower_cut,
+    load_table: calls::load_table,
+    built_in_table: calls::built_in_table,
     plan: calls::plan,
     cut_test: calls::cut_test,
     covers: calls::covers,
@@ -63,6 +85,8 @@ pub const REFERENCE: Calls = Calls {
     vector: reference::vector,
     upper_line: reference::upper_line,
     lower_cut: reference::lower_cut,
+    load_table: reference::load_table,
+    built_in_table: reference::built_in_table,
     plan: reference::plan,
     cut_test: reference::cut_test,
     covers: reference::covers,
@@ -72,12 +96,40 @@ pub const REFERENCE: Calls = Calls {
     pack: reference::pack,
 };
 
+impl Calls {
+    /// The words and the totals of the plan of an event, with a unit table; or the refusal.
+    pub fn planned(
+        &self,
+        log: &[u8],
+        (worker, event): (u32, u32),
+        table: &[u32],
+    ) -> Result<(Vec<u32>, [u64; 4]), u32> {
+        let n = worker_count(log).min(MAX_WORKERS);
+        let (mut words, mut scratch, mut totals) = (vec![0; 3 * n], vec![0; n * n], [0; 4]);
+        let number = (self.plan)(
+            log,
+            worker,
+            event,
+            table,
+            &mut words,
+            &mut scratch,
+            &mut totals,
+        );
+        match number {
+            0 => Ok((words, totals)),
+            refusal => Err(refusal),
+        }
+    }
+}
+
 /// The names of the calls.
-pub const NAMES: [&str; 11] = [
+pub const NAMES: [&str; 13] = [
     "log_refusal",
     "vector",
     "upper_line",
     "lower_cut",
+    "load_table",
+    "built_in_table",
     "plan",
     "cut_test",
     "covers",
@@ -98,8 +150,10 @@ pub struct Arguments {
     pub state: State,
     /// The workers of a list of steps.
     pub list: Vec<u32>,
-    /// How many words are lent for a line, for a plan, as totals and for the steps of the list.
-    pub lent: [usize; 4],
+    /// The unit table.
+    pub table: Vec<u32>,
+    /// How many words are lent for a line, for a plan, as totals, for the steps of the list and for the built-in table.
+    pub lent: [usize; 5],
     /// How many bytes and words are lent for the packed log.
     pub packed: (usize, usize),
 }
@@ -118,14 +172,15 @@ fn given(
 }
 
 impl Arguments {
-    /// Arguments for a log, with as many words and bytes as are needed.
+    /// Arguments for a log, with the built-in table and with as many words and bytes as are needed.
     pub fn new(at: (u32, u32), state: State, list: Vec<u32>, log: &Log) -> Arguments {
         let n = log.size();
         Arguments {
             at,
             identifier: 0,
             state,
-            lent: [n, 3 * n, 4, list.len() * (n + 1)],
+            table: BUILT_IN.to_vec(),
+            lent: [n, 3 * n, 4, list.len() * (n + 1), TABLE_WORDS],
             packed: (packed_length(log).min(MAX_LOG), 1),
             list,
         }
@@ -147,6 +202,7 @@ impl Arguments {
             .collect();
         let mut arguments = Arguments::new((worker, event), state, list, accepted);
         arguments.identifier = random.below(12) as u32 + random.pick(&[0, 0, 0, MARK]);
+        arguments.table = table(random);
         for lent in &mut arguments.lent {
             *lent = length(random, *lent);
         }
@@ -157,21 +213,25 @@ impl Arguments {
 
     /// What a call gives: its number, then the words, the bytes and the totals that it was lent, but for scratch.
     pub fn answer(&self, name: &str, calls: &Calls, log: &[u8]) -> Vec<u64> {
-        let [line, plan, ..] = self.lent;
+        let ((worker, event), [line, plan, .., table]) = (self.at, self.lent);
         match name {
             "log_refusal" => given(0, 0, |_, _| (calls.log_refusal)(log)),
             "vector" => self.line(calls.vector, log),
             "upper_line" => self.line(calls.upper_line, log),
-            "lower_cut" => self.with_totals(calls.lower_cut, log, line),
-            "plan" => self.with_totals(calls.plan, log, plan),
+            "lower_cut" => self.with_totals(line, |to, scratch, totals| {
+                (calls.lower_cut)(log, worker, event, to, scratch, totals)
+            }),
+            "load_table" => given(0, 0, |_, _| (calls.load_table)(&self.table)),
+            "built_in_table" => given(table, 0, |to, _| (calls.built_in_table)(to)),
+            "plan" => self.with_totals(plan, |to, scratch, totals| {
+                (calls.plan)(log, worker, event, &self.table, to, scratch, totals)
+            }),
             "cut_test" => {
                 let cut: Vec<u32> = self.state.plan.chunks(3).map(|w| w[0]).collect();
                 given(1, 0, |to, _| (calls.cut_test)(log, &cut, to))
             }
             "covers" => given(1, 0, |to, _| (calls.covers)(log, self.identifier, to)),
-            "step" => self.steps(0, |to, _| {
-                (calls.step)(log, &self.state.plan, to, self.at.0)
-            }),
+            "step" => self.steps(0, |to, _| (calls.step)(log, &self.state.plan, to, worker)),
             "steps" => self.steps(self.list.len(), |to, answers| {
                 (calls.steps)(log, &self.state.plan, to, &self.list, answers)
             }),
@@ -186,11 +246,15 @@ impl Arguments {
         given(self.lent[0], 0, |to, _| call(log, worker, event, to))
     }
 
-    fn with_totals(&self, call: WithTotals, log: &[u8], words: usize) -> Vec<u64> {
-        let (worker, event) = self.at;
+    /// What a call that is lent scratch gives, with this many words.
+    fn with_totals(
+        &self,
+        words: usize,
+        call: impl FnOnce(&mut [u32], &mut [u32], &mut [u64]) -> u32,
+    ) -> Vec<u64> {
         let mut scratch = vec![0; SCRATCH_WORDS];
         given(words, self.lent[2], |to, totals| {
-            call(log, worker, event, to, &mut scratch, totals)
+            call(to, &mut scratch, totals)
         })
     }
 
@@ -206,7 +270,7 @@ impl Arguments {
 
     fn replay(&self, call: RestoreAndReplay, log: &[u8]) -> Vec<u64> {
         let ((worker, event), list) = (self.at, &self.list);
-        let [line, plan, totals, steps] = self.lent;
+        let [line, plan, totals, steps, _] = self.lent;
         let mut scratch = vec![0; SCRATCH_WORDS];
         given(plan + line + steps, totals, |to, totals| {
             let (words, rest) = to.split_at_mut(plan);
@@ -216,6 +280,7 @@ impl Arguments {
                 worker,
                 event,
                 list,
+                &self.table,
                 words,
                 &mut scratch,
                 after,

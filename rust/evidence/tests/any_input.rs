@@ -9,6 +9,10 @@ use evidence::runs::{any_log, any_repeating_log};
 
 /// The numbers that calls with a worker, an event and enough words or fewer can return.
 const ARGUMENTS: [u32; 4] = [0, 12, 13, 14];
+/// The numbers of plans with enough scratch or less, and with any unit table.
+const PLANS: [u32; 2] = [15, 27];
+/// The numbers of the calls on unit tables.
+const TABLES: [u32; 3] = [0, 14, 27];
 /// The numbers of a packing with enough bytes and words or fewer.
 const PACKINGS: [u32; 3] = [0, 14, 25];
 /// The numbers of states, edited ones too.
@@ -28,10 +32,11 @@ fn small_valid_logs() {
     assert!(forms[1] > 3_000 && forms[2] > 3_000, "{forms:?}");
     seen.has(ARGUMENTS);
     seen.has(STATES);
-    seen.has([15]);
+    seen.has(PLANS);
     seen.has_replayed(ARGUMENTS);
-    seen.has_replayed([15]);
+    seen.has_replayed(PLANS);
     seen.has_packed(PACKINGS);
+    seen.has_tables(TABLES);
     seen.has_sets(1_000);
 }
 
@@ -46,8 +51,9 @@ fn larger_valid_logs() {
     }
     seen.has(ARGUMENTS);
     seen.has(STATES);
+    seen.has(PLANS);
     seen.has_replayed(ARGUMENTS);
-    seen.has_replayed([15]);
+    seen.has_replayed(PLANS);
     seen.has_packed(PACKINGS);
     seen.has_sets(20);
 }
@@ -69,7 +75,9 @@ fn logs_of_form_2_with_repeats() {
         seen.has(ARGUMENTS);
         seen.has(STATES);
         seen.has([24]);
+        seen.has(PLANS);
         seen.has_replayed(ARGUMENTS);
+        seen.has_replayed(PLANS);
         seen.has_packed(PACKINGS);
     }
 }
@@ -90,7 +98,7 @@ fn damaged_logs() {
     seen.has(0..=11);
     seen.has([24]);
     seen.has_replayed(ARGUMENTS);
-    seen.has_replayed([15]);
+    seen.has_replayed(PLANS);
     seen.has_packed(PACKINGS);
 }
 

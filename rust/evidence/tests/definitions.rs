@@ -1,14 +1,19 @@
 //! The reference against the definitions of documents 01 and 02, taken literally, on small logs.
 
-use evidence::compare::Seen;
+use evidence::compare::{loaded_table, Seen};
 use evidence::damage::damaged;
 use evidence::description::{
     checkpoint_set, get, packed_length, set_form, worker_count, Description, Worker, MARK,
+    TABLE_WORDS,
 };
 use evidence::failure::{words, Call, Difference, Meaning};
 use evidence::random::Random;
 use evidence::runs::{any_form, any_log, make_alike, repeat_any, run, Shape};
 use evidence::sides::{Arguments, Calls, EXPORTED, NAMES, REFERENCE};
+use reference::BUILT_IN;
+
+/// A unit table.
+type Table = [u32; TABLE_WORDS];
 
 /// A log's content, without its withdrawn checkpoints, with the events that happened before each event, as bits.
 struct Model {
@@ -164,28 +169,28 @@ impl Model {
             .map_or(0, |checkpoint| checkpoint.1)
     }
 
-    fn units(&self, cut: &[u32], starts: &[u32]) -> u64 {
+    fn units(&self, table: &Table, cut: &[u32], starts: &[u32]) -> u64 {
         let mut units = 0;
         for (w, worker) in self.workers.iter().enumerate() {
             for event in &worker.events[starts[w] as usize..cut[w] as usize] {
                 units += match (worker.role, event.kind) {
-                    (0, 1) => 2,
-                    (0, 2) => 3,
-                    (0, 3) => 5,
-                    (1, 1) => 2,
-                    (1, 2) => 4,
-                    (1, 3) => 6,
-                    (2, 1) => 3,
-                    (2, 2) => 8,
-                    (2, 3) => 9,
-                    (3, 1) => 2,
-                    (3, 2) => 5,
-                    (3, 3) => 7,
+                    (0, 1) => table[0],
+                    (0, 2) => table[1],
+                    (0, 3) => table[2],
+                    (1, 1) => table[3],
+                    (1, 2) => table[4],
+                    (1, 3) => table[5],
+                    (2, 1) => table[6],
+                    (2, 2) => table[7],
+                    (2, 3) => table[8],
+                    (3, 1) => table[9],
+                    (3, 2) => table[10],
+                    (3, 3) => table[11],
                     other => unreachable!("{other:?}"),
                 };
             }
         }
-        units
+        units.into()
     }
 
     fn covers(&self, t: u32) -> bool {
@@ -209,9 +214,17 @@ fn small(random: &mut Random) -> Description {
     run(&shape, random)
 }
 
+/// The built-in unit table, those of the least and the largest words, and any two.
+fn tables(random: &mut Random) -> [Table; 5] {
+    let least = [1; TABLE_WORDS];
+    let largest = [1_000; TABLE_WORDS];
+    let any = [(); 2].map(|()| loaded_table(random));
+    [BUILT_IN, least, largest, any[0], any[1]]
+}
+
 #[test]
 fn every_event_of_small_logs() {
-    let mut lowered = 0;
+    let (mut lowered, mut rivals) = (0, 0);
     for round in 0..2_000 {
         let mut random = Random::round(1, round);
         let mut description = small(&mut random);
@@ -220,14 +233,18 @@ fn every_event_of_small_logs() {
         let model = Model::new(description.without_withdrawn());
         call(&random, &log, "reference::log_refusal", &[])
             .returned(reference::log_refusal(&log), 0);
+        let tables = tables(&mut random);
         for i in 0..model.workers.len() {
             for e in 1..=model.count(i) {
-                lowered += one_event(&model, &log, &random, i, e);
+                let choices = one_event(&model, &log, &random, (i, e), &tables);
+                lowered += usize::from(choices.lowered);
+                rivals += choices.rivals;
             }
         }
         tests(&model, &log, &mut random);
     }
     assert!(lowered > 1_000, "few starts below the latest: {lowered}");
+    assert!(rivals > 10_000, "few rivals: {rivals}");
 }
 
 /// A call of the reference, for what a failure prints.
@@ -266,8 +283,22 @@ const PLAN_TOTALS: (&str, Meaning) = (
     Meaning::Named(&["visits", "events", "units", "workers word"]),
 );
 
-/// Compares what the reference says of an event; 1 where some start is not the latest checkpoint.
-fn one_event(model: &Model, log: &[u8], random: &Random, i: usize, e: u32) -> usize {
+/// The choices of an event.
+struct Choices {
+    /// Whether some start of the plan is not the latest checkpoint.
+    lowered: bool,
+    /// The choices that work, beside the plan.
+    rivals: usize,
+}
+
+/// Compares what the reference says of an event, its plan with each of the unit tables.
+fn one_event(
+    model: &Model,
+    log: &[u8],
+    random: &Random,
+    (i, e): (usize, u32),
+    tables: &[Table],
+) -> Choices {
     let n = model.workers.len();
     let (worker, event) = (i as u32, e);
     let at = [("worker", worker.into()), ("event", event.into())];
@@ -334,32 +365,50 @@ fn one_event(model: &Model, log: &[u8], random: &Random, i: usize, e: u32) -> us
         .flat_map(|w| [cut[w], latest[w], model.identifier(w, latest[w])])
         .collect();
     let events: u64 = (0..n).map(|w| u64::from(cut[w] - latest[w])).sum();
-    let (mut plan, mut totals) = (vec![0; 3 * n], [0; 4]);
-    let number = reference::plan(log, worker, event, &mut plan, &mut scratch, &mut totals);
-    call("reference::plan").returned(number, 0);
-    let counted = [visits, events, model.units(&cut, &latest), bits];
+    for table in tables {
+        let units = model.units(table, &cut, &latest);
+        let totals = [visits, events, units, bits];
+        plan_by_table(model, call, (worker, event, table), (&expected, &totals));
+        for rival in &startable {
+            let other = model.units(table, &cut, rival);
+            call("a choice").holds(units <= other, || {
+                format!("{rival:?} has {other} units by {table:?}, and the plan {units}")
+            });
+        }
+    }
+    let is_later = |starts: &Vec<u32>| (0..n).any(|w| starts[w] > latest[w]);
+    Choices {
+        lowered: choices.iter().any(is_later),
+        rivals: startable.len() - 1,
+    }
+}
+
+/// Compares a plan and its totals by a unit table, and the same plan with steps.
+fn plan_by_table<'a>(
+    model: &Model,
+    call: impl Fn(&'static str) -> Call<'a>,
+    (worker, event, table): (u32, u32, &Table),
+    (expected, counted): (&[u32], &[u64; 4]),
+) {
+    let planned = REFERENCE.planned(call("reference::plan").log, (worker, event), table);
+    let (plan, totals) = call("reference::plan").accepted(planned);
     call("reference::plan").same([
-        differ(PLAN, &plan, &expected),
-        differ(PLAN_TOTALS, &totals, &counted),
+        differ(PLAN, &plan, expected),
+        differ(PLAN_TOTALS, &totals, counted),
     ]);
     plan_and_steps(
         model,
         &call("reference::restore_and_replay"),
-        (worker, event),
-        (&expected, &totals),
+        (worker, event, table),
+        (expected, counted),
     );
-    usize::from(
-        choices
-            .iter()
-            .any(|starts| (0..n).any(|w| starts[w] > latest[w])),
-    )
 }
 
 /// Compares a plan with steps of all workers in turn, of a number that is no worker's too, until all are at their cuts.
 fn plan_and_steps(
     model: &Model,
     call: &Call,
-    (worker, event): (u32, u32),
+    (worker, event, table): (u32, u32, &Table),
     (plan, totals): (&[u32], &[u64; 4]),
 ) {
     let n = model.workers.len();
@@ -390,6 +439,7 @@ fn plan_and_steps(
         worker,
         event,
         &list,
+        table,
         &mut words,
         &mut scratch,
         &mut after,

@@ -7,6 +7,7 @@ use evidence::failure::{words, Call, Meaning};
 use evidence::random::Random;
 use evidence::runs::{any_form, run, Shape};
 use evidence::sides::EXPORTED;
+use reference::BUILT_IN;
 
 /// An identifier that every worker has.
 struct Set {
@@ -166,15 +167,15 @@ impl Case {
         let (mut cut, mut scratch) = (vec![0; n], vec![0; n * n]);
         let number = (EXPORTED.lower_cut)(log, worker, event, &mut cut, &mut scratch, &mut [0; 2]);
         self.call("lower_cut", &at).returned(number, 0);
-        let (mut plan, mut totals) = (vec![0; 3 * n], [0; 4]);
-        let number = (EXPORTED.plan)(log, worker, event, &mut plan, &mut scratch, &mut totals);
-        self.call("plan", &at).returned(number, 0);
+        let planned = EXPORTED.planned(log, (worker, event), &BUILT_IN);
+        let (plan, mut totals) = self.call("plan", &at).accepted(planned);
         let mut again = vec![0; 3 * n];
         let number = (EXPORTED.restore_and_replay)(
             log,
             worker,
             event,
             &[],
+            &BUILT_IN,
             &mut again,
             &mut scratch,
             &mut vec![0; n],

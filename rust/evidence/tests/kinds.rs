@@ -8,6 +8,7 @@ use evidence::failure::{number, words, Call, Meaning};
 use evidence::random::Random;
 use evidence::runs::any_log;
 use evidence::sides::EXPORTED;
+use reference::BUILT_IN;
 use std::ops::Range;
 
 /// The refusal of an otherwise accepted log with this byte in the place of a send's kind. Its peer event is 0, so it is no receive.
@@ -26,7 +27,7 @@ fn refusal_in_a_receive(byte: u8) -> u32 {
     }
 }
 
-/// How many more units a receive has with its data logged than without, by role.
+/// How many more units a receive has by the built-in table with its data logged than without, by role.
 const MORE_UNITS: [u64; 4] = [5 - 3, 6 - 4, 9 - 8, 7 - 5];
 
 /// An event: its worker, and its index from 1.
@@ -237,18 +238,9 @@ impl Both {
     /// The plans of an event.
     fn plans(&self, (worker, event): At) -> [Plan; 2] {
         self.logs.each_ref().map(|log| {
-            let n = worker_count(log);
-            let (mut words, mut scratch, mut totals) = (vec![0; 3 * n], vec![0; n * n], [0; 4]);
-            let number = (EXPORTED.plan)(
-                log,
-                worker as u32,
-                event as u32,
-                &mut words,
-                &mut scratch,
-                &mut totals,
-            );
+            let planned = EXPORTED.planned(log, (worker as u32, event as u32), &BUILT_IN);
             let arguments = [("worker", worker as u64), ("event", event as u64)];
-            self.call("plan", &arguments).returned(number, 0);
+            let (words, totals) = self.call("plan", &arguments).accepted(planned);
             Plan { words, totals }
         })
     }

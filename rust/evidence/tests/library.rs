@@ -1,11 +1,12 @@
-//! The library's `Log` and `Replay` against the reference on seeded logs.
+//! The library's `Log`, `Replay` and `UnitTable` against the reference on seeded logs and tables.
 
-use evidence::compare::State;
+use evidence::compare::{loaded_table, table};
 use evidence::description::packed_length;
 use evidence::failure::{number, words, Call, Meaning};
 use evidence::random::Random;
 use evidence::runs::any_log;
-use restore_planner::{Advance, Breakpoint, Log, Refusal, Replay, Step};
+use evidence::sides::REFERENCE;
+use restore_planner::{Advance, Breakpoint, Log, Plan, Refusal, Replay, Step, UnitTable};
 
 /// The number of an answer.
 fn answer_number(answer: Result<Step, Refusal>) -> u32 {
@@ -27,14 +28,35 @@ fn plans_and_replays_of_any_event() {
             let list: Vec<u32> = (0..random.below(20))
                 .map(|_| random.below(accepted.size() + 1) as u32)
                 .collect();
-            advanced += one_event(&random, &bytes, Breakpoint { worker, event }, &list);
+            let table = loaded_table(&mut random);
+            let at = Breakpoint { worker, event };
+            advanced += one_event(&random, &bytes, at, &table, &list);
         }
     }
     assert!(advanced > 1_000, "few advances: {advanced}");
 }
 
+/// The words of a plan.
+fn plan_words(plan: &Plan) -> Vec<u32> {
+    let entries = plan.workers.iter();
+    entries
+        .flat_map(|entry| [entry.cut, entry.start, entry.identifier])
+        .collect()
+}
+
+/// The visits, events and units of a plan.
+fn plan_totals(plan: &Plan) -> [u64; 3] {
+    let totals = plan.totals;
+    [totals.visits, totals.events, totals.units]
+}
+
+/// The name of a total of a plan.
+fn total(index: usize) -> String {
+    Meaning::Named(&["visits", "events", "units"]).word("totals", index)
+}
+
 /// Compares the plan of an event, its replay by a list, and from there by advances to its end. The number of advances is returned.
-fn one_event(random: &Random, bytes: &[u8], at: Breakpoint, list: &[u32]) -> u64 {
+fn one_event(random: &Random, bytes: &[u8], at: Breakpoint, table: &[u32], list: &[u32]) -> u64 {
     let arguments = [("worker", at.worker.into()), ("event", at.event.into())];
     let call = |name| Call {
         name,
@@ -42,22 +64,24 @@ fn one_event(random: &Random, bytes: &[u8], at: Breakpoint, list: &[u32]) -> u64
         log: bytes,
         arguments: &arguments,
     };
-    let State {
-        plan: planned,
-        mut positions,
-    } = State::planned(bytes, at.worker, at.event).expect("a plan");
+    let planned = REFERENCE.planned(bytes, (at.worker, at.event), table);
+    let (planned, totals) = planned.expect("a plan");
     let cut: Vec<u32> = planned.chunks(3).map(|entry| entry[0]).collect();
+    let mut positions: Vec<u32> = planned.chunks(3).map(|entry| entry[1]).collect();
 
     let log = call("Log::new").accepted(Log::new(bytes));
     let size = cut.len() as u32;
     call("Log::worker_count").same([number("count", log.worker_count() as u32, size)]);
-    let plan = call("Log::plan").accepted(log.plan(at));
-    let entries = plan.workers.iter();
-    let found: Vec<u32> = entries
-        .flat_map(|entry| [entry.cut, entry.start, entry.identifier])
-        .collect();
+    let table = call("UnitTable::load").accepted(UnitTable::load(table));
+    let plan = call("Log::plan").accepted(log.plan(at, &table));
     let name = |index| Meaning::Plan.word("plan", index);
-    call("Log::plan").same([words(name, &found, &planned)]);
+    call("Log::plan").same([
+        words(name, &plan_words(&plan), &planned),
+        words(total, &plan_totals(&plan), &totals[..3]),
+    ]);
+    let replay = call("Log::restore_and_replay");
+    let restored = replay.accepted(log.restore_and_replay(at, list, &table));
+    replay.holds(restored.plan == plan, || format!("{:?}", restored.plan));
     let lower = call("Log::lower_cut").accepted(log.lower_cut(at));
     let name = |w| format!("cut[{w}]");
     call("Log::lower_cut").same([words(name, &lower.cut, &cut)]);
@@ -97,6 +121,26 @@ fn one_event(random: &Random, bytes: &[u8], at: Breakpoint, list: &[u32]) -> u64
         format!("{done} steps of the list and {advanced} advances for {events} events")
     });
     advanced
+}
+
+#[test]
+fn unit_tables() {
+    let mut loaded = [0; 2];
+    for round in 0..5_000 {
+        let random = &mut Random::round(1_700, round);
+        let words = table(random);
+        let table = UnitTable::load(&words);
+        assert_eq!(UnitTable::try_from(&words[..]), table, "{random}");
+        let found = table.as_ref().map(|table| &table.words()[..]);
+        let expected = match reference::load_table(&words) {
+            0 => Ok(&words[..]),
+            _ => Err(&Refusal::UnitTable),
+        };
+        assert_eq!(found, expected, "{random}");
+        loaded[usize::from(found.is_ok())] += 1;
+    }
+    assert!(loaded.iter().all(|&times| times > 500), "{loaded:?}");
+    assert_eq!(UnitTable::default().words(), &reference::BUILT_IN);
 }
 
 #[test]

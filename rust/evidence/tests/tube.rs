@@ -2,9 +2,10 @@
 
 use evidence::description::{set_form, Description, Event};
 use evidence::sides::{
-    Calls, Covers, CutTest, Line, Pack, RestoreAndReplay, Step, Steps, WithTotals, EXPORTED,
+    Calls, Covers, CutTest, Line, LowerCut, Pack, Plan, RestoreAndReplay, Step, Steps, EXPORTED,
     REFERENCE,
 };
+use reference::BUILT_IN;
 
 const TUBE: &[u8] = include_bytes!("../../restore-planner/examples/tube.log");
 
@@ -42,7 +43,7 @@ fn t1_to_t3(log: &[u8], vector: Line) {
     }
 }
 
-fn t4(log: &[u8], lower_cut: WithTotals) {
+fn t4(log: &[u8], lower_cut: LowerCut) {
     let (mut words, mut totals) = ([9; 4], [9; 3]);
     assert_eq!(
         lower_cut(log, 0, 2, &mut words, &mut [0; 9], &mut totals),
@@ -58,18 +59,28 @@ fn t5(log: &[u8], upper_line: Line) {
     assert_eq!(words, [2, 3, 3, 9]);
 }
 
-fn t6_and_t7(form: u16, plan: WithTotals) {
-    let (mut words, mut totals) = ([9; 10], [9; 5]);
-    let log = tube(form);
-    assert_eq!(plan(&log, 0, 2, &mut words, &mut [0; 9], &mut totals), 0);
-    assert_eq!(words[..9], PLAN);
-    assert_eq!(words[9], 9);
-    assert_eq!(totals, [3, 5, 15, 7, 9]);
+/// The plans by the built-in table, and by one of 12 different words. The replayed events are two sends of worker 2, of role 0, a send and
+/// a receive of worker 1, of role 1, and a receive of worker 0, of role 3. With the data of worker 1's receive logged, those of worker 2
+/// are not replayed.
+fn t6_and_t7(form: u16, plan: Plan) {
+    let rising: Vec<u32> = (101..=112).collect();
+    for (table, units, logged_units) in [
+        (&BUILT_IN[..], 15, 13),
+        (&rising, 2 * 101 + 104 + 105 + 111, 104 + 106 + 111),
+    ] {
+        let (mut words, mut totals) = ([9; 10], [9; 5]);
+        let mut call = |log: &[u8]| {
+            let number = plan(log, 0, 2, table, &mut words, &mut [0; 9], &mut totals);
+            (number, words, totals)
+        };
+        let (number, words, totals) = call(&tube(form));
+        assert_eq!((number, &words[..9], words[9]), (0, &PLAN[..], 9));
+        assert_eq!(totals, [3, 5, units, 7, 9]);
 
-    let log = with_data_logged(form, &[RECEIVE_OF_2_2]);
-    assert_eq!(plan(&log, 0, 2, &mut words, &mut [0; 9], &mut totals), 0);
-    assert_eq!(words, [2, 1, 1, 3, 1, 1, 2, 2, 1, 9]);
-    assert_eq!(totals, [3, 3, 13, 7, 9]);
+        let (number, words, totals) = call(&with_data_logged(form, &[RECEIVE_OF_2_2]));
+        assert_eq!((number, words), (0, [2, 1, 1, 3, 1, 1, 2, 2, 1, 9]));
+        assert_eq!(totals, [3, 3, logged_units, 7, 9]);
+    }
 }
 
 fn t8(log: &[u8], cut_test: CutTest) {
@@ -129,6 +140,7 @@ fn plan_and_steps(log: &[u8], restore_and_replay: RestoreAndReplay) {
             0,
             2,
             workers,
+            &BUILT_IN,
             &mut words,
             &mut [0; 9],
             &mut positions,

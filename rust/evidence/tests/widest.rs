@@ -2,8 +2,8 @@
 //! which form 2 does not allow; and the longest packed logs.
 
 use evidence::compare::{
-    every_call, is_refused_by, lower_cut, pack_gives, packed, plan, restore_and_replay, step,
-    steps, upper_line, vector, Lengths, Replayed, Room, Seen, State,
+    every_call, is_refused_by, loaded_table, lower_cut, pack_gives, packed, plan,
+    restore_and_replay, step, steps, upper_line, vector, Lengths, Replayed, Room, Seen, State,
 };
 use evidence::description::{
     get, put, worker_count, Description, Event, Worker, MAX_EVENTS, MAX_LOG, MAX_WORKERS,
@@ -50,7 +50,7 @@ fn at_events(log: &[u8], worker: u32, events: &[u32]) {
 
 /// Compares the calls that are given an event, where all return this number. Where the event is the worker's, its plan's first steps
 /// and the replay of the whole plan as one list are compared; `restore_and_replay` is given as much of the list as is quick, and a
-/// number that is no worker's.
+/// number that is no worker's. The plans are given any unit table that loads.
 fn at_event(random: &mut Random, log: &[u8], worker: u32, event: u32, number: u32) {
     let n = worker_count(log);
     let lengths = Lengths {
@@ -71,7 +71,8 @@ fn at_event(random: &mut Random, log: &[u8], worker: u32, event: u32, number: u3
     returned(random, "vector", found);
     let found = lower_cut(random, log, worker, event, lengths);
     returned(random, "lower_cut", found);
-    let found = plan(random, log, worker, event, lengths);
+    let table = loaded_table(random);
+    let found = plan(random, log, worker, event, &table, lengths);
     returned(random, "plan", found);
     let found = upper_line(random, log, worker, event, n);
     returned(random, "upper_line", found);
@@ -93,7 +94,7 @@ fn at_event(random: &mut Random, log: &[u8], worker: u32, event: u32, number: u3
         list.insert(list.len() / 2, n as u32);
     }
     let room = Room::needed(n, list.len());
-    let replayed = restore_and_replay(random, log, worker, event, &list, room);
+    let replayed = restore_and_replay(random, log, worker, event, &list, &table, room);
     returned(random, "restore_and_replay", replayed.number());
     if let Replayed::Steps(counted) = replayed {
         assert!(

@@ -8,6 +8,7 @@ use evidence::failure::{words, Call, Meaning};
 use evidence::random::Random;
 use evidence::runs::{run, Shape, Taken};
 use evidence::sides::{Arguments, EXPORTED, NAMES};
+use reference::BUILT_IN;
 
 /// A log of form 2 with withdrawn checkpoints, the same log with none of them withdrawn, and the same without their records.
 struct Case {
@@ -195,11 +196,9 @@ const PLANNED: [Planned; 10] = [
 ];
 
 /// The words of the plan of event 2 of worker 1.
-fn plan_of(log: &[u8]) -> [u32; 6] {
-    let mut words = [0; 6];
-    let number = (EXPORTED.plan)(log, 1, 2, &mut words, &mut [0; 4], &mut [0; 4]);
-    assert_eq!(number, 0);
-    words
+fn plan_of(log: &[u8]) -> Vec<u32> {
+    let planned = EXPORTED.planned(log, (1, 2), &BUILT_IN);
+    planned.expect("a plan").0
 }
 
 /// Whether an identifier covers.
@@ -298,9 +297,8 @@ fn most_withdrawn_checkpoints() {
         let log = description.pack_as(2);
         is_refused_by(&random, &log, 0);
         every_call(&mut random, &log, &mut Seen::default());
-        let (mut words, mut scratch) = ([9; 3 * MAX_WORKERS], [0; MAX_WORKERS * MAX_WORKERS]);
-        let number = (EXPORTED.plan)(&log, 0, 500, &mut words, &mut scratch, &mut [0; 4]);
-        assert_eq!(number, 0);
+        let planned = EXPORTED.planned(&log, (0, 500), &BUILT_IN);
+        let (words, _) = planned.expect("a plan");
         for worker in words.chunks(3) {
             assert_eq!(worker[1..], [0, kept]);
         }

@@ -2,6 +2,7 @@
 
 use crate::log::{accept, breakpoint, number, refuse_if, Log};
 use crate::restore::write_plan;
+use crate::units::{loaded, units};
 
 /// The plan words as cuts and starts, with the positions, of one log.
 struct Machine<'a> {
@@ -105,13 +106,14 @@ fn try_steps(
 }
 
 /// The plan of a breakpoint, to 3 × n words and four totals, and a step for each number of `workers` from its starts: for each step
-/// its answer and the n positions after it, to `steps`; the positions after the last, to `positions`.
+/// its answer and the n positions after it, to `steps`; the positions after the last, to `positions`. The units are by the table.
 #[allow(clippy::too_many_arguments)]
 pub fn restore_and_replay(
     log: &[u8],
     worker: u32,
     event: u32,
     workers: &[u32],
+    table: &[u32],
     words: &mut [u32],
     scratch: &mut [u32],
     positions: &mut [u32],
@@ -121,7 +123,7 @@ pub fn restore_and_replay(
     number(try_restore_and_replay(
         log,
         (worker, event),
-        workers,
+        (workers, table),
         (words, totals),
         scratch,
         positions,
@@ -132,7 +134,7 @@ pub fn restore_and_replay(
 fn try_restore_and_replay(
     log: &[u8],
     (worker, event): (u32, u32),
-    workers: &[u32],
+    (workers, table): (&[u32], &[u32]),
     (words, totals): (&mut [u32], &mut [u64]),
     scratch: &[u32],
     positions: &mut [u32],
@@ -144,7 +146,9 @@ fn try_restore_and_replay(
     refuse_if(words.len() < 3 * n || totals.len() < 4, 14)?;
     refuse_if(positions.len() < n || (steps.len() as u128) < stepped, 14)?;
     refuse_if(scratch.len() < n * n, 15)?;
+    let table = loaded(table)?;
     write_plan(&log, i, event, words, totals);
+    totals[2] = units(&log, &table, words);
     for (w, position) in positions[..n].iter_mut().enumerate() {
         *position = words[3 * w + 1];
     }

@@ -2,9 +2,7 @@
 
 use crate::causality::{figure2, workers_word};
 use crate::log::{accept, breakpoint, number, refuse_if, Checkpoint, Log};
-
-/// Units by role and by kind: send, receive without data, receive with data.
-const UNITS: [[u64; 3]; 4] = [[2, 3, 5], [2, 4, 6], [3, 8, 9], [2, 5, 7]];
+use crate::units::{loaded, units};
 
 /// The starts of the latest startable choice.
 ///
@@ -34,22 +32,24 @@ fn starts(log: &Log, cut: &[u32]) -> Vec<Checkpoint> {
     starts
 }
 
-/// The plan of a breakpoint, to 3 × n words; visits, events, units and workers word, to four totals.
+/// The plan of a breakpoint, to 3 × n words; visits, events, units by the table and workers word, to four totals.
 pub fn plan(
     log: &[u8],
     worker: u32,
     event: u32,
+    table: &[u32],
     words: &mut [u32],
     scratch: &mut [u32],
     totals: &mut [u64],
 ) -> u32 {
-    number(try_plan(log, worker, event, words, scratch, totals))
+    number(try_plan(log, worker, event, table, words, scratch, totals))
 }
 
 fn try_plan(
     log: &[u8],
     worker: u32,
     event: u32,
+    table: &[u32],
     words: &mut [u32],
     scratch: &mut [u32],
     totals: &mut [u64],
@@ -58,33 +58,25 @@ fn try_plan(
     let n = log.size();
     refuse_if(words.len() < 3 * n || totals.len() < 4, 14)?;
     refuse_if(scratch.len() < n * n, 15)?;
+    let table = loaded(table)?;
     write_plan(&log, i, event, words, totals);
+    totals[2] = units(&log, &table, words);
     Ok(())
 }
 
-/// Writes the plan of event `event` of worker `i` and its totals.
+/// Writes the plan of event `event` of worker `i` and its totals but for the units.
 pub(crate) fn write_plan(log: &Log, i: usize, event: u32, words: &mut [u32], totals: &mut [u64]) {
     let (cut, visits) = figure2(log, i, event);
     let starts = starts(log, &cut);
     let mut events = 0;
-    let mut units = 0;
-    for (w, worker) in log.workers.iter().enumerate() {
-        let Checkpoint {
-            index, identifier, ..
-        } = starts[w];
+    for (w, start) in starts.iter().enumerate() {
         words[3 * w] = cut[w];
-        words[3 * w + 1] = index;
-        words[3 * w + 2] = identifier;
-        events += u64::from(cut[w] - index);
-        let table = UNITS[worker.role as usize];
-        units += worker
-            .events(index, cut[w])
-            .map(|event| table[usize::from(event.kind) - 1])
-            .sum::<u64>();
+        words[3 * w + 1] = start.index;
+        words[3 * w + 2] = start.identifier;
+        events += u64::from(cut[w] - start.index);
     }
     totals[0] = visits;
     totals[1] = events;
-    totals[2] = units;
     totals[3] = workers_word(&cut);
 }
 

@@ -2,7 +2,7 @@
 //!
 //! `cargo run --example tube`
 
-use restore_planner::{Advance, Breakpoint, Log, Refusal, Replay};
+use restore_planner::{Advance, Breakpoint, Log, Refusal, Replay, UnitTable};
 
 /// The tube log of document 01, packed.
 const TUBE: &[u8] = include_bytes!("tube.log");
@@ -13,7 +13,7 @@ fn main() -> Result<(), Refusal> {
         worker: 0,
         event: 2,
     };
-    let plan = log.plan(at)?;
+    let plan = log.plan(at, &UnitTable::default())?;
 
     println!("breakpoint {at}");
     for (worker, entry) in plan.workers.iter().enumerate() {

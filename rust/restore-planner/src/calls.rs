@@ -47,11 +47,17 @@ mod exported {
             totals_length: usize,
         ) -> u32;
 
+        pub fn load_table(table: *const u32, table_length: usize) -> u32;
+
+        pub fn built_in_table(table: *mut u32, table_length: usize) -> u32;
+
         pub fn plan(
             log: *const u8,
             log_length: usize,
             worker: u32,
             event: u32,
+            table: *const u32,
+            table_length: usize,
             words: *mut u32,
             words_length: usize,
             scratch: *mut u32,
@@ -107,6 +113,8 @@ mod exported {
             event: u32,
             workers: *const u32,
             workers_length: usize,
+            table: *const u32,
+            table_length: usize,
             words: *mut u32,
             words_length: usize,
             scratch: *mut u32,
@@ -192,13 +200,27 @@ pub fn lower_cut(
     }
 }
 
+/// 0 for a unit table that loads, else 27: other than 12 words, or a word outside 1 to 1,000.
+pub fn load_table(table: &[u32]) -> u32 {
+    // SAFETY: each pointer goes with the length of its slice, which is borrowed for the whole call, alone where it is mutable.
+    unsafe { exported::load_table(table.as_ptr(), table.len()) }
+}
+
+/// Writes the built-in unit table to 12 words.
+pub fn built_in_table(table: &mut [u32]) -> u32 {
+    // SAFETY: each pointer goes with the length of its slice, which is borrowed for the whole call, alone where it is mutable.
+    unsafe { exported::built_in_table(table.as_mut_ptr(), table.len()) }
+}
+
 /// Writes the plan of a breakpoint to 3 × n words (cut, start, identifier of each worker), and the visits, events, units and the
-/// workers word to four totals. Scratch is n × n words. For every identifier that covers and whose checkpoints are all at or below the
-/// cut, no start is before the worker's checkpoint with that identifier.
+/// workers word to four totals. The units are by the unit table, on which nothing else of the plan depends; 27, where it does not load,
+/// comes after 15. Scratch is n × n words. For every identifier that covers and whose checkpoints are all at or below the cut, no start
+/// is before the worker's checkpoint with that identifier.
 pub fn plan(
     log: &[u8],
     worker: u32,
     event: u32,
+    table: &[u32],
     words: &mut [u32],
     scratch: &mut [u32],
     totals: &mut [u64],
@@ -210,6 +232,8 @@ pub fn plan(
             log.len(),
             worker,
             event,
+            table.as_ptr(),
+            table.len(),
             words.as_mut_ptr(),
             words.len(),
             scratch.as_mut_ptr(),
@@ -291,15 +315,16 @@ pub fn steps(
     }
 }
 
-/// Writes the plan of a breakpoint to 3 × n words and its totals, as [`plan`] does, and makes one call of [`step`] for each number
-/// of `workers` from the planned starts. For each of these calls its answer and then the n positions after it stand in `steps`,
-/// n + 1 words each; the positions after the list stand in `positions`, n words. Scratch is n × n words.
+/// Writes the plan of a breakpoint to 3 × n words and its totals, as [`plan`] does with the same unit table, and makes one call of
+/// [`step`] for each number of `workers` from the planned starts. For each of these calls its answer and then the n positions after it
+/// stand in `steps`, n + 1 words each; the positions after the list stand in `positions`, n words. Scratch is n × n words.
 #[allow(clippy::too_many_arguments)]
 pub fn restore_and_replay(
     log: &[u8],
     worker: u32,
     event: u32,
     workers: &[u32],
+    table: &[u32],
     words: &mut [u32],
     scratch: &mut [u32],
     positions: &mut [u32],
@@ -315,6 +340,8 @@ pub fn restore_and_replay(
             event,
             workers.as_ptr(),
             workers.len(),
+            table.as_ptr(),
+            table.len(),
             words.as_mut_ptr(),
             words.len(),
             scratch.as_mut_ptr(),

@@ -1,15 +1,15 @@
 //! Restore plans and replays of a house log, over the proved static library `libplanner.a`.
 //!
 //! A [`Log`] is bytes that were accepted. It gives the [`Plan`] of a [`Breakpoint`]: for each worker the checkpoint to start from
-//! and the event at which its replay ends. A [`Replay`] makes the steps of a plan. [`Log::packed`] gives the log's content in the one
-//! layout that the archive has.
+//! and the event at which its replay ends. A [`UnitTable`], the host's own or the built-in one, says what the replay of an event costs. A
+//! [`Replay`] makes the steps of a plan. [`Log::packed`] gives the log's content in the one layout that the archive has.
 //!
 //! ```
-//! use restore_planner::{Advance, Breakpoint, Log, Replay};
+//! use restore_planner::{Advance, Breakpoint, Log, Replay, UnitTable};
 //!
 //! # let bytes = include_bytes!(concat!(env!("CARGO_MANIFEST_DIR"), "/examples/tube.log"));
 //! let log = Log::new(bytes)?;
-//! let plan = log.plan(Breakpoint { worker: 0, event: 2 })?;
+//! let plan = log.plan(Breakpoint { worker: 0, event: 2 }, &UnitTable::default())?;
 //! let mut replay = Replay::new(&log, &plan)?;
 //! while let Advance::Stepped(worker) = replay.advance()? {
 //!     println!("worker {worker} made a step: {:?}", replay.positions());
@@ -32,8 +32,10 @@ mod log;
 mod plan;
 mod refusal;
 mod replay;
+mod table;
 
 pub use log::Log;
 pub use plan::{Breakpoint, LowerCut, Plan, Totals, WorkerPlan};
 pub use refusal::Refusal;
 pub use replay::{Advance, Replay, Restored, Step, StepRecord};
+pub use table::UnitTable;

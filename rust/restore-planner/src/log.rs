@@ -2,7 +2,7 @@
 
 use crate::plan::Workers;
 use crate::replay::StepRecord;
-use crate::{calls, header, Breakpoint, LowerCut, Plan, Refusal, Restored};
+use crate::{calls, header, Breakpoint, LowerCut, Plan, Refusal, Restored, UnitTable};
 use std::fmt;
 
 /// An accepted log, of form 1 or 2, on bytes that it borrows. A log of form 1 may have two receives of one send. In a log of form 2 a
@@ -143,16 +143,18 @@ impl<'a> Log<'a> {
     }
 
     /// The restore plan of a breakpoint: the latest checkpoints, none of them withdrawn, from which the events within its lower cut can be
-    /// replayed.
+    /// replayed. Its units are by the table, and nothing else of it depends on the table. By no table do other checkpoints from which
+    /// these events can be replayed have fewer units.
     ///
     /// For every identifier that [covers](Log::covers) and whose checkpoints are all at or below the lower cut, no worker starts before
     /// its checkpoint with that identifier.
     ///
     /// ```
-    /// use restore_planner::{Breakpoint, Log, WorkerPlan};
+    /// use restore_planner::{Breakpoint, Log, UnitTable, WorkerPlan};
     ///
     /// # let bytes = include_bytes!(concat!(env!("CARGO_MANIFEST_DIR"), "/examples/tube.log"));
-    /// let plan = Log::new(bytes)?.plan(Breakpoint { worker: 0, event: 2 })?;
+    /// let log = Log::new(bytes)?;
+    /// let plan = log.plan(Breakpoint { worker: 0, event: 2 }, &UnitTable::default())?;
     /// assert_eq!(plan.workers[1], WorkerPlan { cut: 3, start: 1, identifier: 1 });
     /// assert_eq!(plan.totals.units, 15);
     /// assert!(plan.totals.has_worker(2));
@@ -162,7 +164,7 @@ impl<'a> Log<'a> {
     /// # Errors
     ///
     /// [`Refusal::Worker`] or [`Refusal::Event`], where the log has no such event.
-    pub fn plan(&self, at: Breakpoint) -> Result<Plan, Refusal> {
+    pub fn plan(&self, at: Breakpoint, table: &UnitTable) -> Result<Plan, Refusal> {
         let mut words = vec![0; 3 * self.workers];
         let mut scratch = self.scratch();
         let mut totals = [0; 4];
@@ -170,6 +172,7 @@ impl<'a> Log<'a> {
             self.bytes,
             at.worker,
             at.event,
+            table.words(),
             &mut words,
             &mut scratch,
             &mut totals,
@@ -185,11 +188,12 @@ impl<'a> Log<'a> {
     /// [`Replay::run`](crate::Replay::run) come to the same plan, answers and last positions sooner.
     ///
     /// ```
-    /// use restore_planner::{Breakpoint, Log, Step};
+    /// use restore_planner::{Breakpoint, Log, Step, UnitTable};
     ///
     /// # let bytes = include_bytes!(concat!(env!("CARGO_MANIFEST_DIR"), "/examples/tube.log"));
     /// let log = Log::new(bytes)?;
-    /// let restored = log.restore_and_replay(Breakpoint { worker: 0, event: 2 }, &[0, 2])?;
+    /// let at = Breakpoint { worker: 0, event: 2 };
+    /// let restored = log.restore_and_replay(at, &[0, 2], &UnitTable::default())?;
     /// assert_eq!(restored.plan.totals.units, 15);
     /// assert_eq!(restored.steps[0].answer, Ok(Step::Waits));
     /// assert_eq!(restored.steps[1].answer, Ok(Step::Done));
@@ -200,7 +204,12 @@ impl<'a> Log<'a> {
     /// # Errors
     ///
     /// [`Refusal::Worker`] or [`Refusal::Event`], where the log has no such event.
-    pub fn restore_and_replay(&self, at: Breakpoint, workers: &[u32]) -> Result<Restored, Refusal> {
+    pub fn restore_and_replay(
+        &self,
+        at: Breakpoint,
+        workers: &[u32],
+        table: &UnitTable,
+    ) -> Result<Restored, Refusal> {
         let width = self.workers + 1;
         let mut words = vec![0; 3 * self.workers];
         let mut scratch = self.scratch();
@@ -212,6 +221,7 @@ impl<'a> Log<'a> {
             at.worker,
             at.event,
             workers,
+            table.words(),
             &mut words,
             &mut scratch,
             &mut positions,

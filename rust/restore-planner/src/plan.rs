@@ -68,7 +68,7 @@ pub struct Totals {
     pub visits: u64,
     /// The events that are replayed, of all workers together.
     pub events: u64,
-    /// What these events cost, in the units of the workers' roles.
+    /// What these events cost, in units by the [table](crate::UnitTable) of the call.
     pub units: u64,
     workers: Workers,
 }

@@ -6,7 +6,8 @@ use std::fmt;
 /// Why a log or an argument was not accepted.
 ///
 /// Of the conditions that apply, the one with the smallest number is given, where 24, 26 and 25 count, in this order, as being between
-/// 11 and 12. [`Refusal::number`] is the number of document 01; 24 is that of document 02, note 1, and 25 and 26 are those of note 2.
+/// 11 and 12. [`Refusal::number`] is the number of document 01; 24 is that of document 02, note 1, 25 and 26 are those of note 2, and 27
+/// is that of note 7.
 #[derive(Clone, Copy, Debug, PartialEq, Eq, Hash)]
 #[non_exhaustive]
 pub enum Refusal {
@@ -48,13 +49,15 @@ pub enum Refusal {
     OutBytes,
     /// 26: the packed log would have over 4,194,304 bytes. It is tested after 24.
     PackedLength,
+    /// 27: the unit table has other than 12 words, or a word outside 1 to 1,000. It is tested after 15.
+    UnitTable,
     /// A number that this library does not know.
     Unlisted(u32),
 }
 
 impl Refusal {
     /// The refusals by rising number, [`Refusal::Unlisted`] excepted.
-    pub const LISTED: [Refusal; 19] = [
+    pub const LISTED: [Refusal; 20] = [
         Refusal::LogLength,
         Refusal::Form,
         Refusal::WorkerCount,
@@ -74,6 +77,7 @@ impl Refusal {
         Refusal::Repeat,
         Refusal::OutBytes,
         Refusal::PackedLength,
+        Refusal::UnitTable,
     ];
 
     /// What the number of a call means, for numbers that come from [`calls`](crate::calls). A step's number has its own meanings:
@@ -92,7 +96,7 @@ impl Refusal {
             .unwrap_or(Refusal::Unlisted(number)))
     }
 
-    /// The number of document 01 or, for 24 to 26, of document 02.
+    /// The number of document 01 or, for 24 to 27, of document 02.
     pub fn number(self) -> u32 {
         match self {
             Refusal::LogLength => 1,
@@ -114,6 +118,7 @@ impl Refusal {
             Refusal::Repeat => 24,
             Refusal::OutBytes => 25,
             Refusal::PackedLength => 26,
+            Refusal::UnitTable => 27,
             Refusal::Unlisted(number) => number,
         }
     }
@@ -168,6 +173,9 @@ impl Refusal {
             Refusal::OutBytes => "too few bytes were given for the packed log",
             Refusal::PackedLength => {
                 "the packed log would be longer than 4,194,304 bytes, since sections of the log share bytes"
+            }
+            Refusal::UnitTable => {
+                "the unit table has other than 12 words, or a word outside 1 to 1,000"
             }
             Refusal::Unlisted(_) => {
                 "the planner gave a number that this version of the library does not know"

@@ -75,11 +75,11 @@ pub enum Advance {
 /// A replay: a log, a plan and for each worker a position, at first its start.
 ///
 /// ```
-/// use restore_planner::{Breakpoint, Log, Replay, Step};
+/// use restore_planner::{Breakpoint, Log, Replay, Step, UnitTable};
 ///
 /// # let bytes = include_bytes!(concat!(env!("CARGO_MANIFEST_DIR"), "/examples/tube.log"));
 /// let log = Log::new(bytes)?;
-/// let plan = log.plan(Breakpoint { worker: 0, event: 2 })?;
+/// let plan = log.plan(Breakpoint { worker: 0, event: 2 }, &UnitTable::default())?;
 /// let mut replay = Replay::new(&log, &plan)?;
 /// assert_eq!(replay.step(0)?, Step::Waits);
 /// assert_eq!(replay.step(2)?, Step::Done);

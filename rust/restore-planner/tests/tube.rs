@@ -1,6 +1,8 @@
 //! The library on the tube log, and on bytes that are refused.
 
-use restore_planner::{Advance, Breakpoint, Log, Plan, Refusal, Replay, Step, WorkerPlan};
+use restore_planner::{
+    Advance, Breakpoint, Log, Plan, Refusal, Replay, Step, UnitTable, WorkerPlan,
+};
 
 const TUBE: &[u8] = include_bytes!("../examples/tube.log");
 
@@ -14,8 +16,13 @@ fn tube() -> Log<'static> {
     Log::new(TUBE).unwrap()
 }
 
+/// The plan of a breakpoint with the built-in table.
+fn plan(log: &Log, at: Breakpoint) -> Result<Plan, Refusal> {
+    log.plan(at, &UnitTable::default())
+}
+
 fn tube_plan() -> Plan {
-    tube().plan(AT).unwrap()
+    plan(&tube(), AT).unwrap()
 }
 
 fn refused(bytes: &[u8]) -> Refusal {
@@ -25,7 +32,7 @@ fn refused(bytes: &[u8]) -> Refusal {
 #[test]
 fn refusals_have_the_numbers_of_documents_01_and_02() {
     let numbers: Vec<u32> = Refusal::LISTED.iter().map(|r| r.number()).collect();
-    assert_eq!(numbers, (1..=16).chain(24..=26).collect::<Vec<u32>>());
+    assert_eq!(numbers, (1..=16).chain(24..=27).collect::<Vec<u32>>());
     assert_eq!(Refusal::check(0), Ok(()));
     for refusal in Refusal::LISTED {
         assert_eq!(Refusal::check(refusal.number()), Err(refusal));
@@ -101,17 +108,17 @@ fn the_tube_log_of_either_form() {
     let bytes = tube_of_form(2);
     let (log, other) = (Log::new(&bytes).unwrap(), tube());
     assert_eq!(log.worker_count(), 3);
-    assert_eq!(log.plan(AT).unwrap(), tube_plan());
+    assert_eq!(plan(&log, AT).unwrap(), tube_plan());
     for (worker, count) in [(0, 3), (1, 4), (2, 3)] {
         for event in 0..=count + 1 {
             let at = at(worker, event);
             assert_eq!(log.vector(at), other.vector(at));
             assert_eq!(log.lower_cut(at), other.lower_cut(at));
             assert_eq!(log.upper_line(at), other.upper_line(at));
-            assert_eq!(log.plan(at), other.plan(at));
-            let list = [2, 2, 1, 3, 1, 0, 0];
-            let restored = log.restore_and_replay(at, &list);
-            assert_eq!(restored, other.restore_and_replay(at, &list));
+            assert_eq!(plan(&log, at), plan(&other, at));
+            let (list, table) = ([2, 2, 1, 3, 1, 0, 0], UnitTable::default());
+            let restored = log.restore_and_replay(at, &list, &table);
+            assert_eq!(restored, other.restore_and_replay(at, &list, &table));
         }
     }
     let mut replay = Replay::new(&log, &tube_plan()).unwrap();
@@ -203,7 +210,7 @@ fn the_tube_log_with_its_sections_moved() {
     assert_eq!(log.packed().unwrap(), TUBE);
     assert_eq!(packed_into(&log, 212), (Ok(212), TUBE.to_vec()));
     assert_eq!(packed_into(&log, 211).0, Err(Refusal::OutBytes));
-    assert_eq!(log.plan(AT).unwrap(), tube_plan());
+    assert_eq!(plan(&log, AT).unwrap(), tube_plan());
 }
 
 /// A log of form 1 in which all workers but worker 0, which has no events, share the bytes of 65,535 sends to it.
@@ -283,6 +290,55 @@ fn a_plan() {
 }
 
 #[test]
+fn unit_tables_that_load_and_that_do_not() {
+    let built_in = [2, 3, 5, 2, 4, 6, 3, 8, 9, 2, 5, 7];
+    assert_eq!(UnitTable::default().words(), &built_in);
+    assert_eq!(UnitTable::load(&built_in), Ok(UnitTable::default()));
+    for words in [[1; 12], [1_000; 12]] {
+        let table = UnitTable::load(&words).unwrap();
+        assert_eq!(table.words(), &words);
+        assert_eq!(UnitTable::try_from(&words[..]), Ok(table));
+        assert_ne!(table, UnitTable::default());
+    }
+    for words in [
+        &[][..],
+        &[1; 11],
+        &[1; 13],
+        &[1; 24],
+        &[0; 12],
+        &[1_001; 12],
+    ] {
+        assert_eq!(UnitTable::load(words), Err(Refusal::UnitTable));
+        assert_eq!(UnitTable::try_from(words), Err(Refusal::UnitTable));
+    }
+    assert_eq!(
+        Refusal::UnitTable.to_string(),
+        "the unit table has other than 12 words, or a word outside 1 to 1,000 (refusal 27)"
+    );
+}
+
+/// The plan of 0/2 replays two sends of worker 2, of role 0, a send and a receive of worker 1, of role 1, and a receive of worker 0, of
+/// role 3. No data are logged.
+#[test]
+fn a_plan_by_other_unit_tables() {
+    let rising = [101, 102, 103, 104, 105, 106, 107, 108, 109, 110, 111, 112];
+    for (words, units) in [
+        ([1; 12], 5),
+        ([1_000; 12], 5_000),
+        (rising, 2 * 101 + 104 + 105 + 111),
+    ] {
+        let table = UnitTable::load(&words).unwrap();
+        let mut expected = tube_plan();
+        assert_eq!(expected.totals.units, 15);
+        expected.totals.units = units;
+        assert_eq!(tube().plan(AT, &table).unwrap(), expected);
+        let restored = tube().restore_and_replay(AT, &[2], &table).unwrap();
+        assert_eq!(restored.plan, expected);
+        assert_eq!(restored.positions, [1, 1, 1]);
+    }
+}
+
+#[test]
 fn events_that_the_log_does_not_have() {
     let log = tube();
     for (at, refusal) in [
@@ -294,8 +350,9 @@ fn events_that_the_log_does_not_have() {
         assert_eq!(log.vector(at), Err(refusal));
         assert_eq!(log.lower_cut(at), Err(refusal));
         assert_eq!(log.upper_line(at), Err(refusal));
-        assert_eq!(log.plan(at), Err(refusal));
-        assert_eq!(log.restore_and_replay(at, &[0; 5]), Err(refusal));
+        assert_eq!(plan(&log, at), Err(refusal));
+        let restored = log.restore_and_replay(at, &[0; 5], &UnitTable::default());
+        assert_eq!(restored, Err(refusal));
     }
 }
 
@@ -388,7 +445,7 @@ fn plans_beside_a_covering_set() {
         (at(0, 3), [3, 3, 2], set),
         (at(1, 4), [3, 4, 2], set),
     ] {
-        let plan = log.plan(at).unwrap();
+        let plan = plan(&log, at).unwrap();
         let found = plan.workers.iter().map(|entry| (entry.cut, entry.start));
         assert!(found.eq(cut.into_iter().zip(starts)), "{at}: {plan:?}");
     }
@@ -402,7 +459,7 @@ const TOP_BYTE_OF_1: usize = 167;
 
 /// The start and the identifier of each worker in the plan of the last event of worker 1.
 fn starts(log: &Log) -> Vec<(u32, u32)> {
-    let plan = log.plan(at(1, 4)).unwrap();
+    let plan = plan(log, at(1, 4)).unwrap();
     let starts = plan.workers.iter();
     starts
         .map(|entry| (entry.start, entry.identifier))
@@ -510,10 +567,11 @@ fn plans_that_are_not_the_logs() {
 
 #[test]
 fn a_plan_and_a_list_of_its_steps() {
-    let log = tube();
-    let restored = log
-        .restore_and_replay(AT, &[0, 2, 2, u32::MAX, 1, 1])
-        .unwrap();
+    let restore = |list: &[u32]| {
+        let restored = tube().restore_and_replay(AT, list, &UnitTable::default());
+        restored.unwrap()
+    };
+    let restored = restore(&[0, 2, 2, u32::MAX, 1, 1]);
     assert_eq!(restored.plan, tube_plan());
     let steps: Vec<_> = restored
         .steps
@@ -534,13 +592,13 @@ fn a_plan_and_a_list_of_its_steps() {
     assert_eq!(restored.positions, [1, 3, 2]);
     assert!(!restored.is_finished());
 
-    let whole = log.restore_and_replay(AT, &[2, 2, 1, 1, 0, 0]).unwrap();
+    let whole = restore(&[2, 2, 1, 1, 0, 0]);
     assert!(whole.is_finished());
     let answers = whole.steps.iter().map(|step| step.answer);
     let done = answers.filter(|&answer| answer == Ok(Step::Done)).count();
     assert_eq!(done as u64, whole.plan.totals.events);
 
-    let none = log.restore_and_replay(AT, &[]).unwrap();
+    let none = restore(&[]);
     assert_eq!((none.plan, none.steps), (tube_plan(), vec![]));
     assert_eq!(none.positions, [1, 1, 0]);
 }

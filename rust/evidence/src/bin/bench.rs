@@ -6,7 +6,8 @@
 //! since the processor learns the branches of one that is read again and again. The lent words are not cleared between runs; a call of
 //! the exported function and one of the reference have their own. Every call tests the whole log, so each ratio has that in it.
 //! The logs are packed; `pack_moved` is the packing of the same logs with their sections in the opposite order and gaps between them.
-//! `covers` is the test of an identifier that covers; of any other one it ends at the first receive that is lost.
+//! `covers` is the test of an identifier that covers; of any other one it ends at the first receive that is lost. The plan is given the
+//! built-in unit table.
 //!
 //! At the end the test of the log and the plan are timed on form 2 beside form 1 of the same logs, in the same place in memory;
 //! `cargo run --release --bin bench forms` times nothing else, and `bench pack` only the calls whose names begin so. Behind that stands the
@@ -20,6 +21,7 @@ use evidence::random::Random;
 use evidence::runs::{
     chain, deep, different_sends, hub, ring, run, shared_sends, two_level_hub, Shape,
 };
+use reference::BUILT_IN;
 use restore_planner::calls;
 use std::hint::black_box;
 use std::time::{Duration, Instant};
@@ -320,7 +322,7 @@ const CALLS: [(&str, Call, Call); 11] = [
                 totals,
                 ..
             } = to;
-            calls::plan(&c.log, c.worker, c.event, words, scratch, totals)
+            calls::plan(&c.log, c.worker, c.event, &BUILT_IN, words, scratch, totals)
         },
         |c, to| {
             let Words {
@@ -329,7 +331,7 @@ const CALLS: [(&str, Call, Call); 11] = [
                 totals,
                 ..
             } = to;
-            reference::plan(&c.log, c.worker, c.event, words, scratch, totals)
+            reference::plan(&c.log, c.worker, c.event, &BUILT_IN, words, scratch, totals)
         },
     ),
     (
