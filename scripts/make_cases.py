@@ -1207,6 +1207,7 @@ WITH_TABLES = (
     "tube_log", "tube_log_refused_3_1", "tube_log_refused_0_0", "two_workers", "form_0", "every_kind_in_every_role",
     "units_of_role_0", "units_of_role_1", "units_of_role_2", "units_of_role_3",
 )
+assert all(name in CONTENT for name in WITH_TABLES)
 
 # by hand: of RISING, whose words are 101 to 112, the sum of all; then three receives without data in role 0 and a send in each other
 # role. Of the cases by role, 1 send, 10 receives without data and 100 with it, and a send in role 0.
