@@ -5,12 +5,13 @@ use mathlib.Core.Bool.{Bool, true, false, not, _&&_}
 use mathlib.Core.List.{List}
 use Prim.Native.Nat.{ℕ, _+_, _<_, _≤_}
 use native.Mathlib.Omega.{arith}
-use borrow.Author.Tests.{ltb-false, le-ltb, not-true}
+use borrow.Author.Tests.{ltb-true, ltb-false, le-ltb, not-true}
 use lib.Dec.{ltb}
 use lib.ListN.{take, List·getD-eq-default}
 use lib.Seq.{getD-take}
 use Rattle.ranges.specs.Fold.{anyBelow}
 use Rattle.ranges.proofs.Any.{any-each, any-every, any-same}
+use Rattle.ranges.proofs.Bools.{and-true-left, and-true-right}
 use Rattle.ranges.proofs.Order.{lt-or-le}
 use Rattle.log.specs.Model.{Workers, workerCount, eventOf, isReceive}
 use Rattle.accept.specs.WellFormed.{WellFormed}
@@ -18,7 +19,7 @@ use Rattle.lent.specs.Lent.{at}
 use Rattle.causality.specs.Cut.{IsCut, Consistent, lacks, workerLacks, isConsistent}
 
 -- a receive within the cut does not lack its send exactly when the send is within the cut
-lacks-false : (log : Workers) (cut : List ℕ) (w k : ℕ)
+pub lacks-false : (log : Workers) (cut : List ℕ) (w k : ℕ)
     → (lacks log cut w k ≡ false) ↔ (isReceive (eventOf log w (k + 1)) ≡ true → eventOf log w (k + 1) .send ≤ at cut (eventOf log w (k + 1) .peer))
 unfolding lacks
 lacks-false log cut w k = (
@@ -35,6 +36,15 @@ lacks-false log cut w k = (
     test : (b : Bool) → isReceive (eventOf log w (k + 1)) ≡ b → (isReceive (eventOf log w (k + 1)) ≡ true → send ≤ at cut peer) → (b && ltb (at cut peer) send) ≡ false
     test true q h = le-ltb (at cut peer) send (h q)
     test false q h = refl
+
+-- one that lacks its send is a receive of a send beyond the cut
+pub lacks-true : (log : Workers) (cut : List ℕ) (w k : ℕ) → lacks log cut w k ≡ true
+    → (isReceive (eventOf log w (k + 1)) ≡ true) × (at cut (eventOf log w (k + 1) .peer) < eventOf log w (k + 1) .send)
+unfolding lacks
+lacks-true log cut w k e =
+    let receive = isReceive (eventOf log w (k + 1)) in
+    let beyond = ltb (at cut (eventOf log w (k + 1) .peer)) (eventOf log w (k + 1) .send) in
+    (and-true-left receive beyond e, ltb-true (at cut (eventOf log w (k + 1) .peer)) (eventOf log w (k + 1) .send) (and-true-right receive beyond e))
 
 -- words past the last worker are 0
 pub cut-past : (log : Workers) (cut : List ℕ) → IsCut log cut → (w : ℕ) → workerCount log ≤ w → at cut w ≡ 0

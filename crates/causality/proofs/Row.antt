@@ -3,11 +3,11 @@
 use mathlib.Core.Path.{_≡_, refl, sym, _∙_}
 use mathlib.Core.Bool.{Bool, true, false, cond}
 use mathlib.Core.Logic.{⊎-elim, _≢_}
-use mathlib.Core.List.{List, _++_}
+use mathlib.Core.List.{List}
 use Prim.Native.Nat.{ℕ, _+_, _<_, _≤_, max}
 use native.Mathlib.Omega.{arith}
 use borrow.Author.Tests.{le-leb, lt-leb, eq-eqb, ne-eqb}
-use lib.ListN.{length, set, replicate, length-set, length-replicate, getD-replicate, List·getD-append}
+use lib.ListN.{length, set, replicate, length-set, length-replicate, getD-replicate}
 use lib.Seq.{getD-set-same, getD-set-other}
 use Rattle.ranges.specs.Fold.{maxBelow}
 use Rattle.ranges.proofs.Max.{max-more, max-each, max-least, max-same}
@@ -16,9 +16,10 @@ use Rattle.ranges.proofs.Tabulate.{length-tabulate, getD-tabulate, tabulate-lis
 use Rattle.log.specs.declared.Event.{Event}
 use Rattle.log.specs.Model.{Workers, workerCount, eventOf, isReceive}
 use Rattle.lent.specs.Lent.{at}
-use Rattle.causality.specs.Cut.{namedOf, component, vector}
+use Rattle.causality.specs.Cut.{namedOf, component, vector, lacks}
 use Rattle.causality.specs.Inner.Row.{namedAfter, largestAfter, namedRow, noted}
-use Rattle.causality.proofs.Components.{component-own, component-other}
+use Rattle.causality.proofs.Components.{component-own, component-other, named-from}
+use Rattle.causality.proofs.CutTest.{lacks-false}
 
 noted-length : (e : Event) (words : List ℕ) → length (noted e words) ≡ length words
 unfolding noted
@@ -29,7 +30,7 @@ noted-length e words = go (isReceive e)
     go false = refl
 
 module _ (log : Workers) (i from : ℕ) where
-  after-none : (v : ℕ) → largestAfter log i from from v ≡ 0
+  pub after-none : (v : ℕ) → largestAfter log i from from v ≡ 0
   unfolding largestAfter namedAfter
   after-none v =
       let zero′ : maxBelow (namedAfter log i from v) from ≤ 0 = max-least (namedAfter log i from v) from 0 (λ k h. rw (lt-leb from k h) (omega arith)) in
@@ -49,16 +50,12 @@ module _ (log : Workers) (i from : ℕ) where
   unfolding namedRow
   row-length k = length-tabulate (largestAfter log i from k) (workerCount log)
 
-  row-at : (k v : ℕ) → v < workerCount log → at (namedRow log i from k) v ≡ largestAfter log i from k v
+  pub row-at : (k v : ℕ) → v < workerCount log → at (namedRow log i from k) v ≡ largestAfter log i from k v
   unfolding namedRow
   row-at k v h = getD-tabulate (largestAfter log i from k) (workerCount log) v 0 h
 
   pub row-room : (k : ℕ) (row : List ℕ) → row ≡ namedRow log i from k → (v : ℕ) → v < workerCount log → v < length row
   row-room k row q v h = rw (q, row-length k) h
-
-  -- words that begin with the row
-  pub row-first : (k : ℕ) (row rest : List ℕ) → row ≡ namedRow log i from k → (v : ℕ) → v < workerCount log → at (row ++ rest) v ≡ largestAfter log i from k v
-  row-first k row rest q v h = rw q (List·getD-append (namedRow log i from k) rest 0 v (rw (row-length k) h) ∙ row-at k v h)
 
   -- one event more
   module _ (k : ℕ) (low : from ≤ k) where
@@ -103,6 +100,23 @@ module _ (log : Workers) (i from e u : ℕ) (other : u ≢ i) where
       (λ l. let each = max-each (namedOf log i u) from k l in let c = component-other log i from u other in omega arith)
       (λ l. let each = max-each (namedAfter log i from u) e k h in let same : namedAfter log i from u k ≡ namedOf log i u k = rw (le-leb from k l) in omega arith)
       (lt-or-le k from)))
+
+-- events whose sends are within the cut name nothing above it
+pub after-covered : (log : Workers) (cut : List ℕ) (i from e u : ℕ) → ((k : ℕ) → from ≤ k → k < e → lacks log cut i k ≡ false) → largestAfter log i from e u ≤ at cut u
+unfolding largestAfter namedAfter
+after-covered log cut i from e u none =
+    max-least (namedAfter log i from u) e (at cut u)
+    (λ k h. ⊎-elim (λ l. rw (lt-leb from k l) (omega arith)) (λ l. rw (le-leb from k l) (covered k h l)) (lt-or-le k from))
+  where
+    covered : (k : ℕ) → k < e → from ≤ k → namedOf log i u k ≤ at cut u
+    covered k h low =
+        ⊎-elim
+        (λ above.
+        let by = named-from log i e u k h (omega arith) in
+        let within = rw (by .send, by .peer) at (lacks-false log cut i k .0 (none k low h) (by .receive)) in
+        within)
+        (λ l. l)
+        (lt-or-le (at cut u) (namedOf log i u k))
 
 module _ (log : Workers) (i e : ℕ) where
   -- the component of another worker, where no event is passed over

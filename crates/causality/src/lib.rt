@@ -6,7 +6,7 @@ ghost use mathlib.Core.Path.{_≡_};
 ghost use mathlib.Core.Bool.{false};
 ghost use Prim.Native.Nat.{_+_, _<_, _≤_};
 ghost use lib.ListN.{length, take, replicate};
-ghost use Rattle.ranges.specs.Fold.{anyBelow};
+ghost use Rattle.ranges.specs.Fold.{anyBelow, firstFrom};
 ghost use Rattle.lent.specs.Lent.{at, unlessRefused};
 ghost use Rattle.log.specs.Layout.{workersOf};
 ghost use Rattle.log.specs.Model.{workerCount, eventCount, eventOf};
@@ -34,7 +34,7 @@ fn note(log: &[u8], i: usize, k: u32, words: &mut [u32])
 }
 
 // Notes events from + 1 .. event of worker i in words that are 0.
-pub fn note_all(log: &[u8], i: usize, from: u32, event: u32, words: &mut [u32])
+fn note_all(log: &[u8], i: usize, from: u32, event: u32, words: &mut [u32])
     requires { ⌜ (logRefusal (now log) ≡ 0) × (now words ≡ replicate (workerCount (workersOf (now log))) 0) × (from ≤ event) × (event ≤ eventCount (workersOf (now log)) i) ⌝ }
     ensures words { λ _. ⌜ now (words .exit) ≡ namedRow (workersOf (now (log .entry))) i from event ⌝ }
 {
@@ -45,13 +45,21 @@ pub fn note_all(log: &[u8], i: usize, from: u32, event: u32, words: &mut [u32])
     }
 }
 
+// What events from + 1 .. event of worker i name of each worker, in as many words.
+pub fn row_into(log: &[u8], i: usize, from: u32, event: u32, words: &mut [u32])
+    requires { ⌜ (logRefusal (now log) ≡ 0) × (length (now words) ≡ workerCount (workersOf (now log))) × (from ≤ event) × (event ≤ eventCount (workersOf (now log)) i) ⌝ }
+    ensures words { λ _. ⌜ now (words .exit) ≡ namedRow (workersOf (now (log .entry))) i from event ⌝ }
+{
+    lent::clear(words);
+    note_all(log, i, from, event, words);
+}
+
 // The dependency vector of an event, in as many words as there are workers.
 fn vector_into(log: &[u8], i: usize, event: u32, words: &mut [u32])
     requires { ⌜ (logRefusal (now log) ≡ 0) × (length (now words) ≡ workerCount (workersOf (now log))) × (i < workerCount (workersOf (now log))) × (event ≤ eventCount (workersOf (now log)) i) ⌝ }
     ensures words { λ _. ⌜ now (words .exit) ≡ vector (workersOf (now (log .entry))) i event ⌝ }
 {
-    lent::clear(words);
-    note_all(log, i, 0, event, words);
+    row_into(log, i, 0, event, words);
     words[i] = event;
 }
 
@@ -79,20 +87,29 @@ fn is_lacking(log: &[u8], cut: &[u32], w: usize, k: u32) -> bool
     cut[peer] < e.send
 }
 
+// How many events of worker w stand before the first one, after its first `from`, whose send is not within the cut; `last` where there is
+// none among the first `last`.
+pub fn first_lacking(log: &[u8], cut: &[u32], w: usize, from: u32, last: u32) -> u32
+    requires { ⌜ (logRefusal (now log) ≡ 0) × (workerCount (workersOf (now log)) ≤ length (now cut)) × (last ≤ eventCount (workersOf (now log)) w) ⌝ }
+    ensures answer { λ r. ⌜ r ≡ firstFrom (lacks (workersOf (now (log .entry))) (now (cut .entry)) w) from last ⌝ }
+{
+    let mut k = from;
+    while k < last {
+        if is_lacking(log, cut, w, k) {
+            return k;
+        }
+        k += 1;
+    }
+    last
+}
+
 fn worker_lacks(log: &[u8], cut: &[u32], w: usize) -> bool
     requires { ⌜ (logRefusal (now log) ≡ 0) × (workerCount (workersOf (now log)) ≤ length (now cut)) × (w < workerCount (workersOf (now log)))
         × (at (now cut) w ≤ eventCount (workersOf (now log)) w) ⌝ }
     ensures answer { λ r. ⌜ r ≡ workerLacks (workersOf (now (log .entry))) (now (cut .entry)) w ⌝ }
 {
     let last = cut[w];
-    let mut k: u32 = 0;
-    while k < last {
-        if is_lacking(log, cut, w, k) {
-            return true;
-        }
-        k += 1;
-    }
-    false
+    first_lacking(log, cut, w, 0, last) < last
 }
 
 // Whether some receive within the cut has a send that is not.

@@ -3,3 +3,5 @@ pub mod LowerCut
 pub mod VisitCount
 pub mod WorkersWord
 pub mod Turns
+pub mod Copied
+pub mod Loop

@@ -1,13 +1,13 @@
 -- Figure 2 makes at most one visit more than there are receives within the lower cut: a measure of the cut that each store raises
 -- bounds the visits, and the receives whose send is within the cut so far are such a measure. Assumes nothing.
 use mathlib.Core.Path.{_≡_, refl}
-use mathlib.Core.Logic.{⊎-elim}
+use mathlib.Core.Logic.{_⊎_, inl, inr, ⊎-elim}
 use mathlib.Core.Bool.{Bool, true, false, cond, _&&_}
 use mathlib.Core.List.{List}
 use Prim.Native.Nat.{ℕ, zero, suc, _+_, _*_, _^_, _<_, _≤_}
 use native.Mathlib.Omega.{arith}
 use borrow.Author.Tests.{le-leb, lt-leb, leb-true}
-use lib.Dec.{leb}
+use lib.Dec.{leb, ltb}
 use lib.ListN.{set}
 use lib.Seq.{getD-set-same}
 use Rattle.ranges.specs.Fold.{sumBelow, sweep}
@@ -20,7 +20,7 @@ use Rattle.accept.specs.WellFormed.{WellFormed}
 use Rattle.causality.specs.Happened.{IsEvent}
 use Rattle.lent.specs.Lent.{at}
 use Rattle.causality.specs.Cut.{component, IsCut, Consistent, receiveAt, receivesOf, receivesWithin}
-use Rattle.lower_cut.specs.Figure2.{Found, counted, stored, turn, visit, visitAt, beginning, figure2, lowerCut}
+use Rattle.lower_cut.specs.Figure2.{Found, counted, stored, turnIf, turn, visit, visitAt, beginning, figure2, lowerCut}
 use Rattle.lower_cut.specs.Inner.Visiting.{wordSum}
 use Rattle.causality.proofs.Order.{happened-rises, consistent-holds}
 use Rattle.lower_cut.proofs.Recursion.{Ready, Grown, grown-set, grown-ready, AboveCut, turn-cases, turn-grows, raised-ready, visit-grows, visitAt-grows}
@@ -70,6 +70,46 @@ module _ (log : Workers) (ok : WellFormed log) (measure : List ℕ → ℕ) (H :
 pub visitAt-bounded : (log : Workers) → WellFormed log → (measure : List ℕ → ℕ) (H : ℕ → ℕ → Type 0) → Raises log measure H → Bounded log measure H (visitAt log)
 unfolding visitAt
 visitAt-bounded log ok measure H raises i e s event ready has = visit-bounded log ok measure H raises (suc (eventOf log i e .stamp)) i e s event ready has
+
+-- a turn takes no visit back, where its visits take none back
+turn-rises : (log : Workers) (go : ℕ → ℕ → Found → Found) → ((v d : ℕ) (t : Found) → t .visits ≤ go v d t .visits) → (i e v : ℕ) (t : Found) → t .visits ≤ turn go log i e v t .visits
+unfolding turn turnIf
+turn-rises log go each i e v t = test (ltb (at (t .cut) v) (component log i e v))
+  where
+    test : (b : Bool) → t .visits ≤ turnIf b go v (component log i e v) t .visits
+    test true = each v (component log i e v) (stored t v (component log i e v))
+    test false = omega arith
+
+-- a visit of any depth takes no visit back
+visit-rises : (log : Workers) (depth i e : ℕ) (s : Found) → s .visits ≤ visit depth log i e s .visits
+unfolding visit
+visit-rises log zero i e s = omega arith
+visit-rises log (suc depth) i e s =
+    sweep-keeps (turn (λ v d t. visit depth log v d t) log i e) (λ k t. s .visits ≤ t .visits) (workerCount log) (counted s) (omega arith)
+    (λ k t h before. let more = turn-rises log (λ v d u. visit depth log v d u) (visit-rises log depth) i e k t in omega arith)
+
+-- the visit with enough depth counts itself
+pub visitAt-counts : (log : Workers) (i e : ℕ) (s : Found) → s .visits < visitAt log i e s .visits
+unfolding visitAt visit
+visitAt-counts log i e s =
+    let depth = eventOf log i e .stamp in
+    sweep-keeps (turn (λ v d t. visit depth log v d t) log i e) (λ k t. s .visits < t .visits) (workerCount log) (counted s) (omega arith)
+    (λ k t h before. let more = turn-rises log (λ v d u. visit depth log v d u) (visit-rises log depth) i e k t in omega arith)
+
+-- the first n turns of a visit leave the cut as it is, or make a visit
+pub turns-counted : (log : Workers) (ok : WellFormed log) (i e n : ℕ) (s : Found) → n ≤ workerCount log → IsEvent log i e → Ready log i e (s .cut)
+    → (sweep (turn (visitAt log) log i e) n (counted s) .cut ≡ s .cut) ⊎ (s .visits + 1 < sweep (turn (visitAt log) log i e) n (counted s) .visits)
+turns-counted log ok i e n s few event ready =
+    sweep-keeps (turn (visitAt log) log i e)
+    (λ k t. Ready log i e (t .cut) × ((s .visits + 1 ≤ t .visits) × ((t .cut ≡ s .cut) ⊎ (s .visits + 1 < t .visits))))
+    n (counted s) (ready, (omega arith, inl refl))
+    (λ k t h before.
+    let d = component log i e k in (
+      grown-ready (before .0) (turn-grows log (visitAt log) (visitAt-grows log) i e k t),
+      ⊎-elim (λ idle. rw (idle .1 (visitAt log)) (before .1))
+          (λ up. let more = visitAt-counts log k d (stored t k d) in rw (up .1 (visitAt log)) (omega (arith, before .1 .0), inr (omega (arith, before .1 .0))))
+          (turn-cases log ok i e k t event (before .0)),
+    )) .1 .1
 
 -- a store raises the sum of the words
 pub words-raise : (log : Workers) → Raises log (wordSum log) (λ i e. Unit {0})

@@ -1,2 +1,3 @@
 -- What only the contracts of this crate's own functions cite.
 pub mod Visiting
+pub mod Turns

@@ -5,7 +5,7 @@ mod figure2;
 ghost use mathlib.Core.Path.{_≡_};
 ghost use Prim.Native.Nat.{_<_, _≤_};
 ghost use lib.ListN.{length};
-ghost use Rattle.lent.specs.Lent.{onto, unlessRefused};
+ghost use Rattle.lent.specs.Lent.{onto, unlessRefused, KeptIfRefused};
 ghost use Rattle.log.specs.Layout.{workersOf};
 ghost use Rattle.log.specs.Model.{workerCount};
 ghost use Rattle.accept.specs.Refusal.{logRefusal, given};
@@ -22,15 +22,16 @@ pub struct Cut {
     pub workers: u64,
 }
 
-// The lower cut of an event, in as many words as there are workers, and the visits made.
-fn cut_into(log: &[u8], i: usize, event: u32, cut: &mut [u32]) -> u64
-    requires { ⌜ (logRefusal (now log) ≡ 0) × (length (now cut) ≡ workerCount (workersOf (now log))) × (i < workerCount (workersOf (now log))) × IsEvent (workersOf (now log)) i event ⌝ }
+// The lower cut of an event, in as many words as there are workers, and the visits made. The scratch has n words or more.
+fn cut_into(log: &[u8], i: usize, event: u32, cut: &mut [u32], scratch: &mut [u32]) -> u64
+    requires { ⌜ (logRefusal (now log) ≡ 0) × (length (now cut) ≡ workerCount (workersOf (now log))) × (i < workerCount (workersOf (now log))) × IsEvent (workersOf (now log)) i event
+        × (workerCount (workersOf (now log)) ≤ length (now scratch)) ⌝ }
     ensures cut { λ _. ⌜ now (cut .exit) ≡ lowerCut (workersOf (now (log .entry))) i event ⌝ }
     ensures answer { λ r. ⌜ r ≡ figure2 (workersOf (now (log .entry))) i event .visits ⌝ }
 {
     lent::clear(cut);
     cut[i] = event;
-    figure2::visit(log, i, 0, event, cut, 0)
+    figure2::visit(log, i, 0, event, cut, scratch, 0)
 }
 
 // Bit w of the workers word.
@@ -59,12 +60,13 @@ fn workers_word(cut: &[u32]) -> u64
 }
 
 // The lower cut of an event, in as many words as there are workers, with what the call returns.
-pub fn found_cut(log: &[u8], i: usize, event: u32, cut: &mut [u32]) -> Cut
-    requires { ⌜ (logRefusal (now log) ≡ 0) × (length (now cut) ≡ workerCount (workersOf (now log))) × (i < workerCount (workersOf (now log))) × IsEvent (workersOf (now log)) i event ⌝ }
+pub fn found_cut(log: &[u8], i: usize, event: u32, cut: &mut [u32], scratch: &mut [u32]) -> Cut
+    requires { ⌜ (logRefusal (now log) ≡ 0) × (length (now cut) ≡ workerCount (workersOf (now log))) × (i < workerCount (workersOf (now log))) × IsEvent (workersOf (now log)) i event
+        × (workerCount (workersOf (now log)) ≤ length (now scratch)) ⌝ }
     ensures answer { λ r. ⌜ r ≡ foundCut (workersOf (now (log .entry))) i event ⌝ }
     ensures cut { λ r. ⌜ now (cut .exit) ≡ lowerCut (workersOf (now (log .entry))) i event ⌝ }
 {
-    let visits = cut_into(log, i, event, cut);
+    let visits = cut_into(log, i, event, cut, scratch);
     Cut {
         refusal: 0,
         visits,
@@ -85,7 +87,7 @@ pub fn lower_cut(
     ensures refused { λ r. ⌜ r .refusal ≡ searchRefusal (given (now (log .entry))) worker event 1 (length (now (words .entry))) others (length (now (scratch .entry))) ⌝ }
     ensures answer { λ r. ⌜ r ≡ cutAnswer (r .refusal) (workersOf (now (log .entry))) worker event ⌝ }
     ensures words { λ r. ⌜ now (words .exit) ≡ unlessRefused (r .refusal) (lowerCut (workersOf (now (log .entry))) worker event) (now (words .entry)) ⌝ }
-    ensures kept { λ r. ⌜ now (scratch .exit) ≡ now (scratch .entry) ⌝ }
+    ensures kept { λ r. ⌜ KeptIfRefused (r .refusal) (now (scratch .entry)) (now (scratch .exit)) ⌝ }
 {
     let refusal = causality::refusals::search_refusal(
         log,
@@ -104,7 +106,7 @@ pub fn lower_cut(
         };
     }
     let n = log::worker_count(log);
-    found_cut(log, worker as usize, event, &mut words[..n])
+    found_cut(log, worker as usize, event, &mut words[..n], scratch)
 }
 
 // Writes what the lower cut returns.

@@ -95,7 +95,7 @@ pub extern "C" fn lower_cut(
         (wordsRefusal (length (now (totals .entry))) 2) (length (now (scratch .entry))) ⌝ }
     ensures words { λ r. ⌜ now (words .exit) ≡ unlessRefused r (lowerCut (workersOf (now (log .entry))) worker event) (now (words .entry)) ⌝ }
     ensures totals { λ r. ⌜ now (totals .exit) ≡ unlessRefused r (cutTotals (foundCut (workersOf (now (log .entry))) worker event)) (now (totals .entry)) ⌝ }
-    ensures kept { λ r. ⌜ now (scratch .exit) ≡ now (scratch .entry) ⌝ }
+    ensures kept { λ r. ⌜ KeptIfRefused r (now (scratch .entry)) (now (scratch .exit)) ⌝ }
 {
     let others = lent::words_refusal(totals.len(), 2);
     let found = lower_cut::lower_cut(log, worker, event, others, words, scratch);

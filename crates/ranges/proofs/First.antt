@@ -1,4 +1,4 @@
--- Laws of `firstBelow` and `lastBelow`. Assumes nothing.
+-- Laws of `firstBelow`, `firstFrom` and `lastBelow`. Assumes nothing.
 use mathlib.Core.Path.{_≡_, refl, _∙_, sym, ap}
 use mathlib.Core.Bool.{Bool, true, false, cond, false≢true}
 use mathlib.Core.Logic.{⊎-elim}
@@ -6,11 +6,11 @@ use Prim.Native.Nat.{ℕ, zero, suc, _+_, _<_, _≤_}
 use native.Mathlib.Nat.{not-suc-le-zero, eq-or-lt-of-le, le-of-suc-le-suc}
 use native.Mathlib.Numerals.{add-one}
 use native.Mathlib.Omega.{arith}
-use borrow.Author.Tests.{lt-ltb, le-ltb}
+use borrow.Author.Tests.{lt-ltb, le-ltb, le-leb, lt-leb}
 use lib.Dec.{ltb}
-use Rattle.ranges.specs.Fold.{anyBelow, firstBelow, lastBelow}
+use Rattle.ranges.specs.Fold.{anyBelow, firstBelow, fromOn, firstFrom, lastBelow}
 use Rattle.ranges.proofs.Order.{lt-or-le}
-use Rattle.ranges.proofs.Any.{any-each}
+use Rattle.ranges.proofs.Any.{any-each, any-every, any-found}
 
 -- what the first number with p is: at most n, none before it has p, and it has p where it is below n
 pub record IsFirst (p : ℕ → Bool) (n k : ℕ) : Type 0 where
@@ -56,6 +56,71 @@ module _ (p : ℕ → Bool) where
   pub first-none : (n k : ℕ) → k ≡ n → anyBelow p k ≡ false → k ≡ firstBelow p n
   first-none n k e none =
       first-unique n k (record { bound = omega arith; before = any-each p k none; found = λ l. let no : ⊥ = omega arith in absurd no })
+
+-- what the first number with p from `from` on is
+pub record IsFirstFrom (p : ℕ → Bool) (from n k : ℕ) : Type 0 where
+  pub bound : k ≤ n
+  pub before : (j : ℕ) → from ≤ j → j < k → p j ≡ false
+  pub found : k < n → (from ≤ k) × (p k ≡ true)
+
+-- a loop that looks for it has found none among from, .., k - 1
+pub record Looked (p : ℕ → Bool) (from k : ℕ) : Type 0 where
+  pub low : from ≤ k
+  pub none : (j : ℕ) → from ≤ j → j < k → p j ≡ false
+
+module _ (p : ℕ → Bool) (from : ℕ) where
+  from-passed : (k : ℕ) → k < from → fromOn p from k ≡ false
+  unfolding fromOn
+  from-passed k h = rw (lt-leb from k h)
+
+  from-on : (k : ℕ) → from ≤ k → fromOn p from k ≡ p k
+  unfolding fromOn
+  from-on k h = rw (le-leb from k h)
+
+  pub first-from : (n : ℕ) → IsFirstFrom p from n (firstFrom p from n)
+  unfolding firstFrom
+  first-from n =
+      let f = first (fromOn p from) n in
+      record {
+        bound = f .bound;
+        before = λ j l h. sym (from-on j l) ∙ f .before j h;
+        found = λ h.
+            ⊎-elim (λ l. absurd (false≢true (sym (from-passed (firstBelow (fromOn p from) n) l) ∙ f .found h)))
+            (λ l. (l, sym (from-on (firstBelow (fromOn p from) n) l) ∙ f .found h))
+            (lt-or-le (firstBelow (fromOn p from) n) from);
+      }
+
+  pub looked-none : Looked p from from
+  looked-none = record { low = omega arith; none = λ j l h. let no : ⊥ = omega arith in absurd no }
+
+-- .. it goes on, finds one, or comes to the end
+module _ {p : ℕ → Bool} {from k : ℕ} (s : Looked p from k) where
+  pub looked-more : {b : Bool} → b ≡ p k → b ≡ false → Looked p from (k + 1)
+  looked-more said test =
+      record {
+        low = omega (arith, s .low);
+        none = λ j l h. ⊎-elim (λ q. ap p q ∙ sym said ∙ test) (λ less. s .none j l less) (eq-or-lt-of-le (le-of-suc-le-suc (rw add-one at h)));
+      }
+
+  passed : (j : ℕ) → j < k → fromOn p from j ≡ false
+  passed j h = ⊎-elim (from-passed p from j) (λ l. from-on p from j l ∙ s .none j l h) (lt-or-le j from)
+
+  pub looked-found : (n : ℕ) → k < n → {b : Bool} → b ≡ p k → b ≡ true → k ≡ firstFrom p from n
+  unfolding firstFrom
+  looked-found n h said test = first-unique (fromOn p from) n k (record { bound = omega arith; before = passed; found = λ l. from-on p from k (s .low) ∙ sym said ∙ test })
+
+  pub looked-end : (n : ℕ) → n ≤ k → n ≡ firstFrom p from n
+  unfolding firstFrom
+  looked-end n h =
+      first-unique (fromOn p from) n n (record { bound = omega arith; before = λ j l. passed j (omega arith); found = λ l. let no : ⊥ = omega arith in absurd no })
+
+-- whether some number below n has p: the first one is below n
+pub first-any : (p : ℕ → Bool) (n : ℕ) → ltb (firstFrom p 0 n) n ≡ anyBelow p n
+first-any p n =
+    let f = first-from p 0 n in
+    ⊎-elim (λ l. rw (lt-ltb (firstFrom p 0 n) n l, any-found p n (firstFrom p 0 n) l (f .found l .1)))
+    (λ l. rw (le-ltb (firstFrom p 0 n) n l, any-every p n (λ k h. f .before k (omega arith) (omega arith))))
+    (lt-or-le (firstFrom p 0 n) n)
 
 -- what the last number with p is: below n, it has p, and none after it has p
 pub record IsLast (p : ℕ → Bool) (n k : ℕ) : Type 0 where

@@ -1,9 +1,9 @@
 -- Folds over the numbers 0 .. n - 1. The last number is outermost, as in a loop that counts up.
 -- Assumes nothing.
-use mathlib.Core.Bool.{Bool, false, cond, _||_}
+use mathlib.Core.Bool.{Bool, false, cond, _&&_, _||_}
 use mathlib.Core.List.{List, [], _∷_, _++_}
 use Prim.Native.Nat.{ℕ, zero, suc, _+_, max}
-use lib.Dec.{ltb}
+use lib.Dec.{leb, ltb}
 
 -- whether p holds of some number below n
 unfoldable pub anyBelow : (ℕ → Bool) → ℕ → Bool
@@ -24,6 +24,14 @@ sumBelow f (suc n) = sumBelow f n + f n
 unfoldable pub firstBelow : (ℕ → Bool) → ℕ → ℕ
 firstBelow p zero = 0
 firstBelow p (suc n) = cond (ltb (firstBelow p n) n) (firstBelow p n) (cond (p n) n (suc n))
+
+-- whether k is a number from `from` on of which p holds
+unfoldable pub fromOn : (ℕ → Bool) → ℕ → ℕ → Bool
+fromOn p from k = leb from k && p k
+
+-- the first number from `from` on and below n of which p holds, and n where there is none
+unfoldable pub firstFrom : (ℕ → Bool) → ℕ → ℕ → ℕ
+firstFrom p from n = firstBelow (fromOn p from) n
 
 -- f of the last number below n of which p holds, and 0 where there is none
 unfoldable pub lastBelow : (ℕ → Bool) → (ℕ → ℕ) → ℕ → ℕ

@@ -1,11 +1,11 @@
 -- The plan words read back: the cut, the starts, and that they are held over the log. And a cut spread over plan words.
 -- Assumes nothing.
 use mathlib.Core.Path.{_≡_, refl, sym, _∙_}
-use mathlib.Core.List.{List}
-use Prim.Native.Nat.{ℕ, _+_, _*_, _/_, _%_, _<_}
+use mathlib.Core.List.{List, _++_}
+use Prim.Native.Nat.{ℕ, _+_, _-_, _*_, _/_, _%_, _<_, _≤_}
 use native.Mathlib.Omega.{arith}
-use lib.ListN.{length, set, length-set}
-use lib.Seq.{getD-set-same, getD-set-other}
+use lib.ListN.{length, set, take, drop, length-set, length-append, length-drop}
+use lib.Seq.{getD-set-same, getD-set-other, getD-take, length-take-le}
 use Rattle.ranges.specs.Fold.{tabulate}
 use Rattle.ranges.proofs.Order.{at-or-other}
 use Rattle.ranges.proofs.Tabulate.{length-tabulate, getD-tabulate, tabulate-list}
@@ -25,26 +25,37 @@ use Rattle.cost.specs.Inner.Held.{IsHeld}
 use Rattle.restore.proofs.Latest.{plan-starts-latest}
 use Rattle.cost.proofs.Held.{cuts-are, starts-are}
 
--- the words when the cut of the workers below n has been spread
-pub record Spread (cut words : List ℕ) (n : ℕ) : Type 0 where
-  pub wide : length words ≡ 3 * length cut
-  pub cuts : (w : ℕ) → w < n → cutIn words w ≡ at cut w
+-- a cut of n workers written over the first of their plan words
+pub cut-over : {cut new : List ℕ} (words : List ℕ) (n : ℕ) → new ≡ cut → length cut ≡ n → length words ≡ 3 * n → length (new ++ drop n words) ≡ 3 * n
+cut-over {cut} words n is long wide = rw is (length-append cut (drop n words) ∙ rw length-drop (omega arith))
 
-pub spread-none : (cut words : List ℕ) → length words ≡ 3 * length cut → Spread cut words 0
-spread-none cut words wide = record { wide = wide; cuts = λ w h. let no : ⊥ = omega arith in absurd no }
+-- the words while the cut in the first n of them is spread from the last worker down: below w it stands there yet, and from w on in
+-- the first word of each worker
+pub record Spread (lent words : List ℕ) (n w : ℕ) : Type 0 where
+  pub wide : length words ≡ 3 * n
+  pub few : w ≤ n
+  pub left : (v : ℕ) → v < w → at words v ≡ at lent v
+  pub cuts : (v : ℕ) → w ≤ v → v < n → cutIn words v ≡ at lent v
 
-pub spread-more : (cut words : List ℕ) (w : ℕ) → w < length cut → Spread cut words w → Spread cut (set words (3 * w) (at cut w)) (w + 1)
+pub spread-none : (words : List ℕ) (n : ℕ) → length words ≡ 3 * n → Spread words words n n
+spread-none words n wide =
+    record { wide = wide; few = omega arith; left = λ v h. refl; cuts = λ v low h. let no : ⊥ = omega arith in absurd no }
+
+pub spread-more : {lent words : List ℕ} {n w : ℕ} → Spread lent words n w → 0 < w → Spread lent (set words (3 * (w - 1)) (at words (w - 1))) n (w - 1)
 unfolding cutIn
-spread-more cut words w here s =
+spread-more {lent} {words} {n} {w} s some =
     record {
       wide = simp length-set (s .wide);
-      cuts = at-or-other w (λ v. v < w + 1 → at (set words (3 * w) (at cut w)) (3 * v) ≡ at cut v)
-          (λ h. getD-set-same words (3 * w) (at cut w) 0 (omega (arith, s .wide)))
-          (λ v n h. getD-set-other words (3 * w) (3 * v) (at cut w) 0 (λ e. n (omega (arith, e))) ∙ s .cuts v (omega (arith, n)));
+      few = omega (arith, s .few);
+      left = λ v h. getD-set-other words (3 * (w - 1)) v (at words (w - 1)) 0 (λ e. let no : ⊥ = omega arith in no) ∙ s .left v (omega arith);
+      cuts = at-or-other (w - 1) (λ v. w - 1 ≤ v → v < n → at (set words (3 * (w - 1)) (at words (w - 1))) (3 * v) ≡ at lent v)
+          (λ low h. getD-set-same words (3 * (w - 1)) (at words (w - 1)) 0 (omega (arith, s .wide, s .few)) ∙ s .left (w - 1) (omega arith))
+          (λ v other low h. getD-set-other words (3 * (w - 1)) (3 * v) (at words (w - 1)) 0 (λ e. other (omega (arith, e))) ∙ s .cuts v (omega (arith, other)) h);
     }
 
-pub spread-all : (cut words : List ℕ) → Spread cut words (length cut) → tabulate (cutIn words) (length cut) ≡ cut
-spread-all cut words s = sym (tabulate-list (cutIn words) (length cut) 0 cut refl (λ w h. sym (s .cuts w h)))
+pub spread-all : {lent words : List ℕ} {n w : ℕ} → length lent ≡ 3 * n → Spread lent words n w → w ≤ 0 → tabulate (cutIn words) n ≡ take n lent
+spread-all {lent} {words} {n} wide s none =
+    sym (tabulate-list (cutIn words) n 0 (take n lent) (length-take-le n lent (omega arith)) (λ v h. getD-take n lent v 0 h ∙ sym (s .cuts v (omega arith) h)))
 
 module _ (log : Workers) (cut : List ℕ) where
   pub plan-long : length (planWords log cut) ≡ 3 * workerCount log

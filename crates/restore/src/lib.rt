@@ -29,31 +29,32 @@ pub struct Totals {
     pub workers: u64,
 }
 
-// Writes a cut into the first word of each worker.
-fn spread(cut: &[u32], words: &mut [u32])
-    requires { ⌜ length (now words) ≡ 3 * length (now cut) ⌝ }
-    ensures words { λ _. ⌜ tabulate (cutIn (now (words .exit))) (length (now (cut .entry))) ≡ now (cut .entry) ⌝ }
+// Moves the cut in the first n words to the first word of each worker, from the last worker down.
+fn spread(words: &mut [u32], n: usize)
+    requires { ⌜ length (now words) ≡ 3 * n ⌝ }
+    ensures words { λ _. ⌜ tabulate (cutIn (now (words .exit))) n ≡ take n (now (words .entry)) ⌝ }
 {
-    let mut w: usize = 0;
-    while w < cut.len() {
-        words[3 * w] = cut[w];
-        w += 1;
+    let mut w = n;
+    while w > 0 {
+        w -= 1;
+        words[3 * w] = words[w];
     }
 }
 
-// Writes the lower cut of an event of worker i into the plan words; scratch is a word for each worker.
+// Writes the lower cut of an event of worker i into the plan words.
 fn cut_words(log: &[u8], i: usize, event: u32, words: &mut [u32], scratch: &mut [u32]) -> Cut
     requires { ⌜ (logRefusal (now log) ≡ 0) × (length (now words) ≡ 3 * workerCount (workersOf (now log)))
-        × (length (now scratch) ≡ workerCount (workersOf (now log))) × (i < workerCount (workersOf (now log))) × (IsEvent (workersOf (now log)) i event) ⌝ }
+        × (workerCount (workersOf (now log)) ≤ length (now scratch)) × (i < workerCount (workersOf (now log))) × (IsEvent (workersOf (now log)) i event) ⌝ }
     ensures answer { λ r. ⌜ r ≡ foundCut (workersOf (now (log .entry))) i event ⌝ }
     ensures words { λ _. ⌜ cutsIn (workersOf (now (log .entry))) (now (words .exit)) ≡ lowerCut (workersOf (now (log .entry))) i event ⌝ }
 {
-    let found = lower_cut::found_cut(log, i, event, scratch);
-    spread(scratch, words);
+    let n = log::worker_count(log);
+    let found = lower_cut::found_cut(log, i, event, &mut words[..n], scratch);
+    spread(words, n);
     found
 }
 
-// The plan of an event of worker i, with its numbers; scratch is a word for each worker.
+// The plan of an event of worker i, with its numbers.
 fn plan_found(
     log: &[u8],
     i: usize,
@@ -63,13 +64,14 @@ fn plan_found(
     scratch: &mut [u32],
 ) -> Totals
     requires { ⌜ (logRefusal (now log) ≡ 0) × (length (now words) ≡ 3 * workerCount (workersOf (now log)))
-        × (length (now scratch) ≡ workerCount (workersOf (now log))) × (i < workerCount (workersOf (now log))) × (IsEvent (workersOf (now log)) i event)
+        × (workerCount (workersOf (now log)) ≤ length (now scratch)) × (i < workerCount (workersOf (now log))) × (IsEvent (workersOf (now log)) i event)
         × (tableRefusal (now table) ≡ 0) ⌝ }
     ensures answer { λ r. ⌜ r ≡ foundPlan (tableOf (now (table .entry))) (workersOf (now (log .entry))) i event ⌝ }
     ensures words { λ _. ⌜ now (words .exit) ≡ planWords (workersOf (now (log .entry))) (lowerCut (workersOf (now (log .entry))) i event) ⌝ }
 {
     let cut = cut_words(log, i, event, words, scratch);
-    starts::plan_into(log, words, scratch);
+    let n = log::worker_count(log);
+    starts::plan_into(log, words, &mut scratch[..n]);
     Totals {
         refusal: 0,
         visits: cut.visits,
@@ -142,7 +144,7 @@ pub fn plan(
         event,
         table,
         &mut words[..all],
-        &mut scratch[..n],
+        scratch,
     )
 }
 

@@ -9,18 +9,18 @@ use Rattle.lower_cut.proofs.cut_into.Tie as tie
 
 visit-requires : tie.Need-visit-requires
 visit-requires c κs =
-    let pre = c .before .before .before .before .before .before .before .pre in
-    (pre .0, search needs, begun _ _ _ _ (rw (pre .1) at (c .before .before .before .clear .ensures)) (pre .3))
+    let pre = c .before .before .before .before .before .before .before .before .before .pre in
+    (pre .0, search needs, begun _ _ _ _ (rw (pre .1) at (c .before .before .before .before .clear .ensures)) (pre .3), pre .4)
 
 same-length : tie.Need-same-length
-same-length c = c .before .before .visit .kept .1 .1 .1 .1 .0 ∙ simp length-set (c .before .before .before .before .before .before .clear .kept .0)
+same-length c = c .before .before .before .before .visit .kept .1 .1 .1 .1 .0 ∙ simp length-set (c .before .before .before .before .before .before .before .before .before .clear .kept .0)
 
 returns : tie.Need-returns
 returns c =
-    let zeros = rw (c .before .before .before .before .before .before .before .before .before .before .pre .1) at (c .before .before .before .before .before .before .clear .ensures) in
-    let same = figured _ _ _ _ _ zeros (c .before .before .visit .ensures) in
+    let zeros = rw (c .before .before .before .before .before .before .before .before .before .before .before .before .before .before .pre .1) at (c .before .before .before .before .before .before .before .before .before .clear .ensures) in
+    let same = figured _ _ _ _ _ zeros (c .before .before .before .before .visit .ensures .0) in
     (ap (λ (t : Found). t .cut) same, ap (λ (t : Found). t .visits) same)
 
 pub cut-into-spec : {M : Type 1} → statement M
 cut-into-spec =
-    tie.close (tie.spec (λ c κs. search needs) (λ c. search needs) (λ c. search needs) visit-requires same-length returns)
+    tie.close (tie.spec (λ c κs. search needs) (λ c. search needs) (λ c. search needs) visit-requires same-length (λ c. search needs) returns)

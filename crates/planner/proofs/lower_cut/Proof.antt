@@ -1,5 +1,5 @@
 -- `planner::lower_cut` meets its contract. Assumes nothing.
-use mathlib.Core.Path.{sym, _∙_}
+use mathlib.Core.Path.{refl, sym, _∙_}
 use Rattle.lent.proofs.Lent.{words-ok, put-found, untouched}
 use Rattle.causality.proofs.Allowed.{search-ok}
 use Rattle.lower_cut.specs.Calls.{cutAnswer, cutTotals}
@@ -32,7 +32,7 @@ returns-2 c =
     let none = c .before .before .before .before .if1 .left in
     let found = rw (none) at (called .1 .0) in (
       sym none ∙ rw (← c .before .before .before .before .before .before .before .before .before .before .before .before .words-refusal .ensures) (called .0),
-      (rw (none) at (called .1 .1 .0), (put-found cutTotals _ _ _ _ found (c .before .before .write-cut .ensures), called .1 .1 .1)),
+      (rw (none) at (called .1 .1 .0), (put-found cutTotals _ _ _ _ found (c .before .before .write-cut .ensures), λ no. absurd (no refl))),
     )
 
 pub lower-cut-spec : {M : Type 1} → statement M

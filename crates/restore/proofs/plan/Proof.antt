@@ -32,16 +32,6 @@ slice-aggregate-plan-found c =
     let lent = plan-ok (c .before .before .before .plan-refusal .ensures) (c .before .before .if1 .left) .search in
     sym (length-take-le _ _ (omega (arith, lent .line .enough, c .before .worker-count .ensures .0)))
 
-slice-relend-prefix-plan-found-2 : tie.Need-slice-relend-prefix-plan-found-2
-slice-relend-prefix-plan-found-2 c =
-    let lent = plan-ok (c .before .before .before .plan-refusal .ensures) (c .before .before .if1 .left) .search in
-    omega (arith, lent .room, c .before .worker-count .ensures .0)
-
-slice-aggregate-plan-found-2 : tie.Need-slice-aggregate-plan-found-2
-slice-aggregate-plan-found-2 c =
-    let lent = plan-ok (c .before .before .before .before .plan-refusal .ensures) (c .before .before .before .if1 .left) .search in
-    sym (length-take-le _ _ (omega (arith, lent .room, c .before .before .worker-count .ensures .0)))
-
 plan-found-requires : tie.Need-plan-found-requires
 plan-found-requires c κs =
     let passed = plan-ok (c .before .before .before .before .plan-refusal .ensures) (c .before .before .before .if1 .left) in
@@ -50,7 +40,7 @@ plan-found-requires c κs =
     let point = lent .line .breakpoint in (
       point .accepted,
       simp length-take (omega (arith, lent .line .enough, count)),
-      length-take-le _ _ (omega (arith, lent .room)) ∙ count,
+      lent .room,
       point .within,
       point .event,
       passed .loaded,
@@ -71,4 +61,4 @@ returns-2 c =
 
 pub plan-spec : {M : Type 1} → statement M
 plan-spec =
-    tie.close (tie.spec (λ c κs. search needs) returns worker-count-requires (λ c. search needs) slice-relend-prefix-plan-found slice-aggregate-plan-found slice-relend-prefix-plan-found-2 slice-aggregate-plan-found-2 plan-found-requires (λ c. search needs) (λ c. search needs) returns-2)
+    tie.close (tie.spec (λ c κs. search needs) returns worker-count-requires (λ c. search needs) slice-relend-prefix-plan-found slice-aggregate-plan-found plan-found-requires (λ c. search needs) (λ c. search needs) returns-2)
