@@ -1,17 +1,18 @@
 -- What a call that is not refused may use of what it was lent. Assumes nothing.
 use mathlib.Core.Path.{_≡_, refl, sym, _∙_}
 use mathlib.Core.Bool.{false, _||_}
-use mathlib.Core.Logic.{_≢_}
+use mathlib.Core.Logic.{⊎-elim, _≢_}
 use mathlib.Core.List.{List}
 use Prim.Native.Nat.{ℕ, _*_, _<_, _≤_}
 use native.Mathlib.Nat.{mul-le-mul}
 use native.Mathlib.Omega.{arith}
-use borrow.Author.Tests.{ltb-false, leb-false, eqb-false}
+use borrow.Author.Tests.{ltb-false, leb-false, eq-eqb, ne-eqb, eqb-false}
 use lib.Dec.{eqb, leb, ltb}
 use lib.ListN.{length}
 use Rattle.ranges.specs.Fold.{anyBelow}
 use Rattle.ranges.proofs.Any.{any-each}
 use Rattle.ranges.proofs.Bools.{or-false-left, or-false-right}
+use Rattle.ranges.proofs.Order.{eq-or-ne}
 use mir.Syntax.{w64}
 use mir.Val.{Fits}
 use Rattle.lent.specs.Lent.{at, orElse, wordsRefusal}
@@ -20,9 +21,8 @@ use Rattle.log.specs.Limits.{maxWorkers}
 use Rattle.log.specs.Layout.{workersOf}
 use Rattle.log.specs.Model.{Workers, workerCount, eventCount}
 use Rattle.accept.specs.Refusal.{Given, logRefusal, given}
-use Rattle.accept.proofs.Accepted.{well-formed}
 use Rattle.causality.specs.Happened.{IsEvent}
-use Rattle.causality.specs.Refusals.{workerRefusal, eventRefusal, scratchRefusal, overCount, cutRefusal, breakpointRefusal, lineRefusal, searchRefusal, testRefusal}
+use Rattle.causality.specs.Refusals.{workerRefusal, eventRefusal, scratchWords, scratchRefusal, overCount, cutRefusal, breakpointRefusal, lineRefusal, searchRefusal, testRefusal}
 
 module _ (log : Workers) where
   pub worker-ok : (w : ℕ) → workerRefusal log w ≡ 0 → w < workerCount log
@@ -38,9 +38,16 @@ module _ (log : Workers) where
       let positive = eqb-false x 0 (or-false-left none past tested) in
       (omega (arith, positive), ltb-false _ _ (or-false-right none past tested))
 
--- the square of a number of workers fits a `usize`
-pub squares-fit : (n : ℕ) → n ≤ maxWorkers → Fits w64 (n * n)
-squares-fit n h = let few = mul-le-mul h h in record { fits = omega arith }
+-- enough scratch has a row of words, one for each worker
+rows-enough : (n lent : ℕ) → scratchWords n ≤ lent → n ≤ lent
+unfolding scratchWords
+rows-enough n lent h =
+    ⊎-elim (λ one. let row = rw (eq-eqb n 1 one) at h in omega arith) (λ other. let rows = rw (ne-eqb n 1 other) at h in omega arith) (eq-or-ne n 1)
+
+-- no log needs more than 2 words for each of as many workers as it may have
+pub scratch-few : (n : ℕ) → n ≤ maxWorkers → scratchWords n ≤ 2 * maxWorkers
+unfolding scratchWords
+scratch-few n h = ⊎-elim (λ one. rw (eq-eqb n 1 one) (omega arith)) (λ other. rw (ne-eqb n 1 other) (omega arith)) (eq-or-ne n 1)
 
 -- a number of workers fits with what a 32-bit number of words for each needs
 pub each-fits : (each n : ℕ) → each < 4294967296 → n ≤ maxWorkers → Fits w64 (each * n)
@@ -82,14 +89,9 @@ module _ {s : List ℕ} {w x : ℕ} where
     pub search-ok : {scratch r : ℕ} → r ≡ searchRefusal (given s) w x each lent others scratch → r ≡ 0 → SearchLent s w x each lent others scratch
     unfolding searchRefusal scratchRefusal
     search-ok {scratch} found none =
-        let n = workerCount (workersOf s) in
+        let needed = scratchWords (workerCount (workersOf s)) in
         let tests = or-else-zero (lineRefusal (given s) w x each lent others) (scratchRefusal (workersOf s) scratch) (sym found ∙ none) in
-        let line = line-ok refl (tests .0) in
-        let square = ltb-false scratch (n * n) (peel (ltb scratch (n * n)) 14 0 (tests .1) .0) in
-        let some : 1 ≤ n = well-formed s (line .breakpoint .accepted) .some in
-        let same : n ≤ n = omega arith in
-        let less : 1 * n ≤ n * n = mul-le-mul some same in
-        record { line = line; room = omega arith }
+        record { line = line-ok refl (tests .0); room = rows-enough _ scratch (ltb-false scratch needed (peel (ltb scratch needed) 14 0 (tests .1) .0)) }
 
 -- a log that is refused: every chain gives its number
 pub refused-log : (log : Given) (w x each lent others scratch : ℕ) → log .refusal ≢ 0 → searchRefusal log w x each lent others scratch ≡ log .refusal

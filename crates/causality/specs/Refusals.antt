@@ -1,4 +1,5 @@
--- Refusals 12 to 16 of document 01, and the chains that the calls share: each is the first number that applies.
+-- Refusals 12 to 16 of document 01, 15 as note 8 of document 02 has it, and the chains that the calls share: each is the first number
+-- that applies.
 -- Assumes nothing.
 use mathlib.Core.Bool.{Bool, cond, _||_}
 use mathlib.Core.List.{List}
@@ -17,9 +18,13 @@ workerRefusal log w = cond (leb (workerCount log) w) 12 0
 unfoldable pub eventRefusal : Workers → ℕ → ℕ → ℕ
 eventRefusal log w e = cond (eqb e 0 || ltb (eventCount log w) e) 13 0
 
--- 15: "scratch too short": "n × n words or more"
+-- "from 2 × n scratch words, or from one where n is 1" (02, note 8)
+unfoldable pub scratchWords : ℕ → ℕ
+scratchWords n = cond (eqb n 1) 1 (2 * n)
+
+-- 15: "scratch too short": "Refusal 15 is for fewer than that"
 unfoldable pub scratchRefusal : Workers → ℕ → ℕ
-scratchRefusal log lent = cond (ltb lent (workerCount log * workerCount log)) 15 0
+scratchRefusal log lent = cond (ltb lent (scratchWords (workerCount log))) 15 0
 
 -- 16: "a cut word over the event count"
 unfoldable pub overCount : Workers → List ℕ → ℕ → Bool

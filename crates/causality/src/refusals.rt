@@ -1,10 +1,12 @@
 // Refusals 12 to 15, and the chains of refusals that the calls share.
 
 ghost use mathlib.Core.Path.{_≡_};
+ghost use Prim.Native.Nat.{_≤_};
 ghost use Rattle.log.specs.Header.{layoutRefusal};
+ghost use Rattle.log.specs.Limits.{maxWorkers};
 ghost use Rattle.log.specs.Layout.{workersOf};
 ghost use Rattle.accept.specs.Refusal.{given};
-ghost use Rattle.causality.specs.Refusals.{workerRefusal, eventRefusal, scratchRefusal, breakpointRefusal, lineRefusal, searchRefusal};
+ghost use Rattle.causality.specs.Refusals.{workerRefusal, eventRefusal, scratchWords, scratchRefusal, breakpointRefusal, lineRefusal, searchRefusal};
 
 // Refusal 12.
 pub fn worker_refusal(log: &[u8], worker: u32) -> u32
@@ -31,13 +33,23 @@ fn event_refusal(log: &[u8], w: usize, event: u32) -> u32
     0
 }
 
+// The fewest words of scratch for n workers.
+fn scratch_words(n: usize) -> usize
+    requires { ⌜ n ≤ maxWorkers ⌝ }
+    ensures answer { λ r. ⌜ r ≡ scratchWords n ⌝ }
+{
+    if n == 1 {
+        return 1;
+    }
+    2 * n
+}
+
 // Refusal 15.
 fn scratch_refusal(log: &[u8], lent: usize) -> u32
     requires { ⌜ layoutRefusal (now log) ≡ 0 ⌝ }
     ensures answer { λ r. ⌜ r ≡ scratchRefusal (workersOf (now (log .entry))) lent ⌝ }
 {
-    let n = log::worker_count(log);
-    if lent < n * n {
+    if lent < scratch_words(log::worker_count(log)) {
         return 15;
     }
     0

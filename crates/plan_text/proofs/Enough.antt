@@ -4,7 +4,7 @@ use mathlib.Core.Path.{_≡_, refl, sym, _∙_}
 use mathlib.Core.Logic.{_≢_, ⊎-elim}
 use mathlib.Core.List.{List, append-nil}
 use Prim.Native.Nat.{ℕ, _*_, _≤_}
-use native.Mathlib.Nat.{mul-le-mul, mul-le-mul-left}
+use native.Mathlib.Nat.{mul-le-mul-left}
 use native.Mathlib.Omega.{arith}
 use borrow.Author.Tests.{le-ltb, ne-eqb}
 use lib.ListN.{length, take, drop, getD}
@@ -19,9 +19,9 @@ use Rattle.lent.specs.Lent.{orElse, wordsRefusal, onto, unlessRefused}
 use Rattle.accept.specs.Refusal.{given}
 use Rattle.accept.proofs.Accepted.{well-formed}
 use Rattle.lower_cut.specs.Figure2.{lowerCut}
-use Rattle.causality.specs.Refusals.{breakpointRefusal, scratchRefusal, lineRefusal, searchRefusal}
+use Rattle.causality.specs.Refusals.{breakpointRefusal, scratchWords, scratchRefusal, lineRefusal, searchRefusal}
 use Rattle.upper_line.specs.Upper.{upperAt, upperLine}
-use Rattle.causality.proofs.Allowed.{breakpoint-ok}
+use Rattle.causality.proofs.Allowed.{breakpoint-ok, scratch-few}
 use Rattle.restore.specs.Plan.{planWords}
 use Rattle.restore.specs.declared.Totals.{Totals}
 use Rattle.unit_table.specs.Table.{builtIn}
@@ -55,23 +55,22 @@ module _ (s : List ℕ) (w e : ℕ) where
   line-number each accepted = rw (accepted, words-enough (each * maxWorkers) (each * workerCount (workersOf s)) (mul-le-mul-left each (few accepted)))
 
   planned : ℕ
-  planned = searchRefusal (given s) w e 3 (3 * maxWorkers) (wordsRefusal 4 4) (maxWorkers * maxWorkers)
+  planned = searchRefusal (given s) w e 3 (3 * maxWorkers) (wordsRefusal 4 4) (2 * maxWorkers)
 
   plan-accepted : breakpointRefusal (given s) w e ≡ 0 → planned ≡ 0
   unfolding planned searchRefusal scratchRefusal orElse
   plan-accepted accepted =
-      let n = few accepted in
       rw (
         words-enough 4 4 (omega arith),
         line-number 3 accepted,
-        le-ltb (maxWorkers * maxWorkers) (workerCount (workersOf s) * workerCount (workersOf s)) (mul-le-mul n n),
+        le-ltb (2 * maxWorkers) (scratchWords (workerCount (workersOf s))) (scratch-few (workerCount (workersOf s)) (few accepted)),
       )
 
   plan-refused : breakpointRefusal (given s) w e ≢ 0 → planned ≡ breakpointRefusal (given s) w e
   unfolding planned searchRefusal lineRefusal
   plan-refused refused = rw (or-else-first (breakpointRefusal (given s) w e) _ refused, or-else-first (breakpointRefusal (given s) w e) _ refused)
 
-  pub plan-number : searchRefusal (given s) w e 3 (3 * maxWorkers) (wordsRefusal 4 4) (maxWorkers * maxWorkers) ≡ breakpointRefusal (given s) w e
+  pub plan-number : searchRefusal (given s) w e 3 (3 * maxWorkers) (wordsRefusal 4 4) (2 * maxWorkers) ≡ breakpointRefusal (given s) w e
   unfolding planned
   plan-number = ⊎-elim (λ q. plan-accepted q ∙ sym q) plan-refused (eq-or-ne (breakpointRefusal (given s) w e) 0)
 

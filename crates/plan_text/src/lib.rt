@@ -23,7 +23,7 @@ const MAX_INPUT: usize = 65536;
 // The words of the longest plan, and the scratch for it.
 const PLAN_WORDS: usize = 3 * log::MAX_WORKERS;
 
-const SCRATCH: usize = log::MAX_WORKERS * log::MAX_WORKERS;
+const SCRATCH: usize = 2 * log::MAX_WORKERS;
 
 // Puts a byte at a place of the text, where there is room for it, and gives the place after it.
 fn put_byte(out: &mut [u8], at: usize, byte: u8) -> usize
