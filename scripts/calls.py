@@ -19,6 +19,8 @@ The lines of a case:
     17           in some cases: with each of TABLES as the unit table, loading it, the plan, and the plan with a list of steps;
                  and the built-in table, with each of FOR_TABLE words lent for it
     18 + w       three steps of worker w, while every other worker starts at its cut: what these sent before is lost
+    82           in some cases: with each number of scratch words of `scratch_lengths`, the lower cut, the plan, and the plan with a
+                 list of steps
 
 The ways: in way k, 0 to 5, one word or byte too few is lent of kind k, and just enough of the others. In ways 6 and 7 it is just
 enough of each kind, in way 8 it is 8 more than needed, and in way 9 one too few. A call that only writes words is lent fillers.
@@ -56,7 +58,7 @@ LIST_AT = READ_AT + 3 * MAX_WORKERS + 8
 TABLE_AT = LIST_AT + 8 * (MAX_WORKERS + 2)
 WRITTEN_AT = TABLE_AT + 32
 ANSWERS_AT = WRITTEN_AT + MAX_WORKERS + 8
-SIZE = WRITTEN_AT + MAX_WORKERS ** 2 + 8
+SIZE = WRITTEN_AT + MAX_WORKERS ** 2 + 8  # room for n × n words of scratch, and 8 more
 
 # What each word to write over holds: a number over every event count.
 FILLER = 900000
@@ -100,13 +102,14 @@ TABLES = (
 )
 FOR_TABLE = (0, 11, 12, 20)
 
-# The first lines with changed words, of a list, of the tables, and of lost starts; the changes.
+# The first lines with changed words, of a list, of the tables, of lost starts and of scratch; the changes.
 CHANGED = FEW + 1
 CHANGES = (1, 65536, 4294967295)
 LISTS = CHANGED + len(CHANGES)
 PATTERNS = range(4)
 BY_TABLE = LISTS + len(PATTERNS)
 LOST = BY_TABLE + 1
+BY_SCRATCH = LOST + MAX_WORKERS
 
 # The numbers of the longest list, of one that is lent with a plan, and of one that is lent with a plan and each table.
 LONGEST = 8 * (MAX_WORKERS + 2)
@@ -137,6 +140,11 @@ def lent(needed, kind, way):
     return needed - 1 if way in (kind, FEW) else needed + 8 if way == MORE else needed
 
 
+def scratch_lengths(n):
+    """Numbers of scratch words: none, one, and those about a row, two rows, and a row for each worker."""
+    return sorted({0, 1, n - 1, n, 2 * n - 1, 2 * n, 2 * n + 1, n * n - 1, n * n, n * n + 1})
+
+
 def worker_numbers(pattern, n, count):
     """A list of worker numbers: 0 to n - 1, n, and the largest number for n + 1."""
     places = range(count)
@@ -153,8 +161,8 @@ class Words:
     """The words of a case."""
 
     def __init__(self, case, n):
-        number, *_, self.plan = reference.plan_call(*case, BUILT_IN, [FILLER] * (3 * n), n * n)
-        self.cut = self.plan[0::3] if number else reference.lower_cut_call(*case, [FILLER] * n, n * n)[3]
+        number, *_, self.plan = reference.plan_call(*case, BUILT_IN, [FILLER] * (3 * n), reference.scratch_words(n))
+        self.cut = self.plan[0::3] if number else reference.lower_cut_call(*case, [FILLER] * n, reference.scratch_words(n))[3]
         self.positions = self.plan[1::3]
 
     def with_others_lost(self, w):
@@ -165,7 +173,7 @@ class Words:
 class Calls:
     """The entries of a case as they are added, and the labels of those that are actions, for show.py."""
 
-    def __init__(self, content, with_tables):
+    def __init__(self, content, extra):
         self.log, self.worker, _ = case = case_of(content)
         self.n = size(self.log)
         self.words = Words(case, self.n)
@@ -182,12 +190,15 @@ class Calls:
         for pattern in PATTERNS:
             self.begin(LISTS + pattern)
             self.add_steps(self.words.plan, worker_numbers(pattern, self.n, 8 * (self.n + 2)))
-        if with_tables:
+        if BY_TABLE in extra:
             self.begin(BY_TABLE)
             self.add_tables()
         for w in range(self.n):
             self.begin(LOST + w)
             self.add_steps(self.words.with_others_lost(w), [w] * 3)
+        if BY_SCRATCH in extra:
+            self.begin(BY_SCRATCH)
+            self.add_scratch()
 
     def put(self, place, values):
         """The entries that change what is at the places from this one on."""
@@ -244,7 +255,7 @@ class Calls:
         self.lend(WRITTEN, self.n, OF_CUT, way)
         self.make("vector", self.worker)
         self.make("upper_line", self.worker)
-        self.lend(SCRATCH, self.n * self.n, OF_SCRATCH, way)
+        self.lend(SCRATCH, reference.scratch_words(self.n), OF_SCRATCH, way)
         self.make("lower_cut", self.worker)
         self.lend(WRITTEN, 3 * self.n, OF_CUT, way)
         self.make("plan", self.worker)
@@ -278,12 +289,24 @@ class Calls:
         for name in ("load_table", "plan", "restore"):
             self.make(name, self.worker, "%d words %s, " % (len(table), table))
 
-    def add_tables(self):
+    def lend_plans(self):
+        """Lends just enough for both calls of a plan."""
         self.put(WRITTEN_AT, [FILLER] * self.n)
         self.put(WRITTEN, [3 * self.n])
-        self.put(SCRATCH, [self.n * self.n])
+        self.put(SCRATCH, [reference.scratch_words(self.n)])
         self.put(TOTALS, [4])
         self.lend_restore(ENOUGH, REPLAYED_BY_TABLE)
+
+    def add_scratch(self):
+        self.put_table(BUILT_IN)
+        self.lend_plans()
+        for words in scratch_lengths(self.n):
+            self.put(SCRATCH, [words])
+            for name in ("lower_cut", "plan", "restore"):
+                self.make(name, self.worker, "%d words of scratch, " % words)
+
+    def add_tables(self):
+        self.lend_plans()
         for table in TABLES:
             self.add_plans(table)
         for words in FOR_TABLE:
@@ -329,17 +352,17 @@ class Calls:
             positions = reference.step_call(self.log, plan, positions, worker)[1]
 
 
-def entries_of(content, with_tables):
-    """The entries of a case, each a place and a value."""
-    return Calls(content, with_tables).entries
+def entries_of(content, extra):
+    """The entries of a case, each a place and a value. extra: those of the lines of some cases that it has."""
+    return Calls(content, extra).entries
 
 
-def labelled(content, with_tables):
+def labelled(content, extra):
     """The places of the actions of a case, each with its label."""
-    return Calls(content, with_tables).labels
+    return Calls(content, extra).labels
 
 
-def listed(content, with_tables):
+def listed(content, extra):
     """What standard input has for a case."""
-    entries = entries_of(content, with_tables)
+    entries = entries_of(content, extra)
     return struct.pack("<I", len(entries)) + b"".join(struct.pack("<II", *entry) for entry in entries)

@@ -7,9 +7,10 @@ after = what it returned:
 
 A changed word has its kind, its number and what it holds after the call. The kinds are w, of a line, a cut or a plan, the
 answer of a test, positions after steps, or the built-in table, whose call is `built_in`; p, positions, and a, answers, of a list
-of steps; s, scratch, which is free after a success. The lower cut, the plan and `restore`, which is `restore_and_replay`, have
-their totals; 999 is one not written. So does `pack`, whose total is the bytes written; before it stand the bytes after `out:`, in
-hexadecimal, where one of them was changed: those lent and PAST more. A byte not written is a5.
+of steps; s, scratch, of a call that is refused, and g, the words behind it, of any other: after a success what is lent is free. The
+lower cut, the plan and `restore`, which is `restore_and_replay`, have their totals; 999 is one not written. So does `pack`, whose
+total is the bytes written; before it stand the bytes after `out:`, in hexadecimal, where one of them was changed: those lent and PAST
+more. A byte not written is a5.
 """
 
 import reference
@@ -120,12 +121,12 @@ class Made:
         return number, bytes_text(lent, after) + totals_text(written)
 
 
-def case_lines(name, content, with_tables):
+def case_lines(name, content, extra):
     """The lines of a case."""
     case = case_of(content)
     numbers = [FILLER] * SIZE
     text = name
-    for place, value in entries_of(content, with_tables):
+    for place, value in entries_of(content, extra):
         numbers[place] = value
         if place < LINE:
             number, changed = getattr(Made(case, numbers), NAMES[place])(value)

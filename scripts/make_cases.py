@@ -14,7 +14,7 @@ import os
 import sys
 
 import reference
-from calls import BUILT_IN, IDENTIFIERS, ONES, RISING, THOUSANDS, listed
+from calls import BUILT_IN, BY_SCRATCH, BY_TABLE, IDENTIFIERS, ONES, RISING, THOUSANDS, case_of, listed
 from expected import case_lines
 from logs import Worker, build, case_file, cut_to, extended, in_form, packed, tube
 from reference import MARK, MAX_WORKERS
@@ -767,7 +767,7 @@ assert len(reference.figure2(reference.read(CONTENT["many_visits"][8:]), 0, 8)[1
 
 def units_and_words(log, worker, event, table):
     """The units and the words of a plan by the reference."""
-    _, _, _, units, _, words = reference.plan_call(log, worker, event, table, [0] * (3 * MAX_WORKERS), MAX_WORKERS ** 2)
+    _, _, _, units, _, words = reference.plan_call(log, worker, event, table, [0] * (3 * MAX_WORKERS), reference.scratch_words(MAX_WORKERS))
     return units, words
 
 
@@ -1201,6 +1201,37 @@ pack_case("withdrawn_in_another_order_with_gaps", [
 ], SCATTERED, form=2, event=3)
 
 
+# ---- Visits with more turns than are copied from a row at once
+
+
+def senders(many, below):
+    """A hub that receives from `many` workers, each of which first receives from the last worker, the next of its sends; no checkpoints.
+    Each of these has one send more, which nobody receives. The hub is worker 0, or worker 1, which then sends to worker 0."""
+    hub, first = (1, 2) if below else (0, 1)
+    last = first + many
+    workers = [Worker(0, [("receive", 1, many + 1, 401)])] if below else []
+    workers.append(Worker(1, [("receive", first + k, 2, 300 + k) for k in range(many)] + [("send", 1 - hub, 400)]))
+    for k in range(many):
+        workers.append(Worker(2, [("receive", last, k + 1, 200), ("send", hub, 201), ("send", hub, 202)]))
+    workers.append(Worker(3, [("send", first + k % many, 100 + k) for k in range(many + 1)]))
+    return workers
+
+
+# by hand: all events but the sends that nobody receives. The hub's visit goes to each sender, and from each of these one goes to the last
+# worker
+for many in (1, 15, 16, 17, 32, 33, 61):
+    count = "%d_sender%s" % (many, "" if many == 1 else "s")
+    for name, below, cut in (
+        ("turns_of_" + count, False, [many] + [2] * many + [many]),
+        ("turns_of_" + count + "_below", True, [1, many + 1] + [2] * many + [many]),
+    ):
+        plan_case(name, senders(many, below), 0, cut[0], [0] * len(cut), cut=cut)
+        visits = reference.lower_cut_call(*case_of(CONTENT[name]), cut, 2 * len(cut))[1]
+        assert visits == 1 + below + 2 * many, "%s: %d visits by the reference" % (name, visits)
+
+# no event of one worker is accepted: 13
+case("one_worker_event_1", 0, build(without_events(1)), event=1)
+
 # ---- Unit tables: the cases on which each of those of calls.py is tried
 
 WITH_TABLES = (
@@ -1224,12 +1255,27 @@ for name, worker, event, table, units in (
     assert found == units, "%s: units %d by the reference" % (name, found)
 
 
+# ---- Scratch: the cases on which each number of words is tried, of 1 worker, where no event is accepted, of 2, 3, 25, 63 and 64
+
+WITH_SCRATCH = (
+    "header_is_the_log_of_1_worker", "one_worker_event_1", "two_workers", "tube_log", "a_worker_visited_again", "many_visits",
+    "sixty_four_workers_with_events", "sixty_four_workers_deep_up", "all_of_64_lowered_up_and_back", "each_of_64_lowered_once",
+    "turns_of_61_senders", "turns_of_61_senders_below",
+)
+assert all(name in CONTENT for name in WITH_SCRATCH)
+
+
+def extra(name):
+    """The lines that the case has and not every case."""
+    return {line for line, names in ((BY_TABLE, WITH_TABLES), (BY_SCRATCH, WITH_SCRATCH)) if name in names}
+
+
 def files():
     """The content of each file, by its path in the crate."""
     made = {os.path.join("data", name): content for name, content in CONTENT.items()}
     made["args"] = "".join(name + "\n" for name in CONTENT).encode()
-    made["stdin"] = b"".join(listed(content, name in WITH_TABLES) for name, content in CONTENT.items())
-    made["stdout"] = "".join(case_lines(name, content, name in WITH_TABLES) for name, content in CONTENT.items()).encode()
+    made["stdin"] = b"".join(listed(content, extra(name)) for name, content in CONTENT.items())
+    made["stdout"] = "".join(case_lines(name, content, extra(name)) for name, content in CONTENT.items()).encode()
     return made
 
 

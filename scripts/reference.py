@@ -468,13 +468,18 @@ def upper_line_call(data, worker, event, words):
     return 0, onto(upper_line(log, worker, event), words)
 
 
+def scratch_words(n):
+    """The least scratch of a lower cut or a plan of n workers."""
+    return 1 if n == 1 else 2 * n
+
+
 def lower_cut_call(data, worker, event, words, scratch):
     """Refusal, visits, workers word, words. scratch is the number of scratch words."""
     try:
         log = read(data)
         check_breakpoint(log, worker, event)
         refuse_if(len(words) < log.n, 14)
-        refuse_if(scratch < log.n * log.n, 15)
+        refuse_if(scratch < scratch_words(log.n), 15)
     except Refused as refused:
         return refused.number, 0, 0, words
     cut, visited = figure2(log, worker, event)
@@ -508,7 +513,7 @@ def plan_call(data, worker, event, table, words, scratch):
         log = read(data)
         check_breakpoint(log, worker, event)
         refuse_if(len(words) < 3 * log.n, 14)
-        refuse_if(scratch < log.n * log.n, 15)
+        refuse_if(scratch < scratch_words(log.n), 15)
         refuse_if(load_table_call(table) != 0, 27)
     except Refused as refused:
         return refused.number, 0, 0, 0, 0, words
@@ -572,7 +577,7 @@ def restore_and_replay_call(data, worker, event, workers, table, words, scratch,
         check_breakpoint(log, worker, event)
         refuse_if(len(words) < 3 * log.n or len(positions) < log.n or len(totals) < 4, 14)
         refuse_if(len(steps) < len(workers) * (log.n + 1), 14)
-        refuse_if(scratch < log.n * log.n, 15)
+        refuse_if(scratch < scratch_words(log.n), 15)
         refuse_if(load_table_call(table) != 0, 27)
     except Refused as refused:
         return refused.number, totals, words, positions, steps
@@ -589,7 +594,7 @@ def printed(content):
     worker, event = struct.unpack_from("<II", content)
     data = content[8:]
     number, visits, events, units, workers, words = plan_call(
-        data, worker, event, BUILT_IN, [0] * (3 * MAX_WORKERS), MAX_WORKERS ** 2)
+        data, worker, event, BUILT_IN, [0] * (3 * MAX_WORKERS), scratch_words(MAX_WORKERS))
     if number != 0:
         return "refused %d\n" % number
     log = read(data)
@@ -914,16 +919,16 @@ def check_tables(log, data, i, e):
     """The plan with each table: they differ in the units alone, which are the events where each word is 1. The words are given."""
     cut, _ = figure2(log, i, e)
     starts = plan_starts(log, cut)
-    lent = [7] * (3 * log.n + 1)
-    _, visits, events, _, workers, words = plan_call(data, i, e, BUILT_IN, lent, log.n * log.n)
+    lent, scratch = [7] * (3 * log.n + 1), 2 * log.n
+    _, visits, events, _, workers, words = plan_call(data, i, e, BUILT_IN, lent, scratch)
     for table in LOADED:
         units = units_of(log, table, cut, starts)
-        expect("plan", plan_call(data, i, e, table, lent, log.n * log.n), (0, visits, events, units, workers, words))
+        expect("plan", plan_call(data, i, e, table, lent, scratch), (0, visits, events, units, workers, words))
     expect("units of 1", units_of(log, [1] * 12, cut, starts), events)
     expect("units of 1,000", units_of(log, [1000] * 12, cut, starts), 1000 * events)
     for table in UNLOADED:
-        expect("27", plan_call(data, i, e, table, lent, log.n * log.n), (27, 0, 0, 0, 0, lent))
-        expect("15 before 27", plan_call(data, i, e, table, lent, log.n * log.n - 1), (15, 0, 0, 0, 0, lent))
+        expect("27", plan_call(data, i, e, table, lent, scratch), (27, 0, 0, 0, 0, lent))
+        expect("15 before 27", plan_call(data, i, e, table, lent, scratch - 1), (15, 0, 0, 0, 0, lent))
         expect("14 before 15", plan_call(data, i, e, table, lent[2:], 0), (14, 0, 0, 0, 0, lent[2:]))
     return words
 

@@ -100,10 +100,10 @@ def calls_in(line):
     return head, texts
 
 
-def labels_of(content, with_tables):
+def labels_of(content, extra):
     """The labels of the calls of each line."""
     lines = [[]]
-    for place, label in labelled(content, with_tables):
+    for place, label in labelled(content, extra):
         if place == LINE:
             lines.append([])
         else:
@@ -122,7 +122,7 @@ def given(name):
     with tempfile.TemporaryDirectory() as room:
         with open(os.path.join(room, name), "wb") as file:
             file.write(make_cases.CONTENT[name])
-        calls = listed(make_cases.CONTENT[name], name in make_cases.WITH_TABLES)
+        calls = listed(make_cases.CONTENT[name], make_cases.extra(name))
         return subprocess.run([PROGRAM, name], cwd=room, input=calls, stdout=subprocess.PIPE).stdout.decode()
 
 
@@ -152,8 +152,8 @@ def show(name):
     for line in made_by(name):
         print("\n".join(wrapped("  " + line, WIDTH, " " * 8)))
     print("\n" + "\n".join(log_rows(log)) + "\n")
-    with_tables = name in make_cases.WITH_TABLES
-    expected, found, labels = case_lines(name, content, with_tables).splitlines(), given(name), labels_of(content, with_tables)
+    extra = make_cases.extra(name)
+    expected, found, labels = case_lines(name, content, extra).splitlines(), given(name), labels_of(content, extra)
     if found is not None:
         return compare(expected, found.splitlines(), labels)
     print("target/bin/cases is not built (rt check cases builds it): the expected lines alone")

@@ -63,7 +63,16 @@ fn run_steps(log: &[u8], given: [u32; SIZE]) -> u32 {
     number
 }
 
-// Prints what a search leaves. After a success the scratch is free.
+// Prints the scratch that a search changes where it is refused, and else the words behind it, since the scratch itself is then free.
+fn print_scratch(number: u32, given: [u32; SIZE], scratch: [u32; SIZE]) {
+    if number != 0 {
+        print_changes(b's', WRITTEN_AT, given, scratch);
+        return;
+    }
+    print_changes(b'g', numbers::behind_scratch(given), given, scratch);
+}
+
+// Prints what a search leaves.
 fn print_search(
     number: u32,
     given: [u32; SIZE],
@@ -72,9 +81,7 @@ fn print_search(
     totals: &[u64; TOTALS],
 ) {
     print_changes(b'w', WRITTEN_AT, given, written);
-    if number != 0 {
-        print_changes(b's', WRITTEN_AT, given, scratch);
-    }
+    print_scratch(number, given, scratch);
     text::print_totals(totals);
 }
 

@@ -40,6 +40,7 @@ pub const WRITTEN_AT: usize = TABLE_AT + 32;
 
 pub const ANSWERS_AT: usize = WRITTEN_AT + log::MAX_WORKERS + 8;
 
+// With room for n × n words of scratch, and 8 more.
 pub const SIZE: usize = WRITTEN_AT + log::MAX_WORKERS * log::MAX_WORKERS + 8;
 
 // The bytes that there are to lend.
@@ -59,6 +60,15 @@ pub(crate) fn part(numbers: &mut [u32], kind: usize, from: usize) -> &mut [u32]
         return &mut numbers[from..from + count];
     }
     &mut numbers[from..]
+}
+
+// The first place behind the scratch that is lent.
+pub(crate) fn behind_scratch(given: [u32; SIZE]) -> usize {
+    let count = wide(given[SCRATCH]);
+    if count < SIZE - WRITTEN_AT {
+        return WRITTEN_AT + count;
+    }
+    SIZE
 }
 
 // The totals to lend: as many as stand at place TOTALS, or as there are.
