@@ -2,7 +2,7 @@
 //! before and behind.
 
 use crate::description::{
-    packed_length, worker_count, Description, MARK, MAX_LOG, MAX_WORKERS, SCRATCH_WORDS,
+    packed_length, scratch, scratch_words, worker_count, Description, MARK, MAX_LOG, MAX_WORKERS,
     TABLE_WORDS,
 };
 use crate::failure::{self, Call, Difference, Meaning};
@@ -24,7 +24,7 @@ const WRITTEN: Meaning = Meaning::Named(&["length"]);
 
 /// Words or bytes that are lent, between guards. All hold any numbers at first.
 #[derive(Clone, Debug)]
-struct Lent<T> {
+pub struct Lent<T> {
     name: &'static str,
     meaning: Meaning,
     cells: Vec<T>,
@@ -47,7 +47,7 @@ impl<T: Copy + Default + PartialEq + Into<u64>> Lent<T> {
     }
 
     /// What is lent.
-    fn lent(&mut self) -> &mut [T] {
+    pub fn lent(&mut self) -> &mut [T] {
         &mut self.cells[GUARD..GUARD + self.length]
     }
 
@@ -59,7 +59,7 @@ impl<T: Copy + Default + PartialEq + Into<u64>> Lent<T> {
     }
 
     /// The first word or byte, a guard too, that is not as expected.
-    fn difference(&self, expected: &Lent<T>) -> Option<Difference> {
+    pub fn difference(&self, expected: &Lent<T>) -> Option<Difference> {
         let name = |cell: usize| match cell.checked_sub(GUARD) {
             None => format!("guard {cell} before {}", self.name),
             Some(index) if index < self.length => self.meaning.word(self.name, index),
@@ -70,7 +70,8 @@ impl<T: Copy + Default + PartialEq + Into<u64>> Lent<T> {
 }
 
 impl Lent<u32> {
-    fn words(random: &mut Random, name: &'static str, length: usize) -> Lent<u32> {
+    /// So many words.
+    pub fn words(random: &mut Random, name: &'static str, length: usize) -> Lent<u32> {
         Lent::of(random, name, Meaning::Plain, length)
     }
 
@@ -94,7 +95,8 @@ impl Lent<u8> {
 }
 
 impl Lent<u64> {
-    fn totals(random: &mut Random, meaning: Meaning, length: usize) -> Lent<u64> {
+    /// So many totals.
+    pub fn totals(random: &mut Random, meaning: Meaning, length: usize) -> Lent<u64> {
         Lent::any(random, ("totals", meaning), length, Random::long)
     }
 }
@@ -427,14 +429,15 @@ impl Room {
     pub fn needed(n: usize, list: usize) -> Room {
         Room {
             words: 3 * n,
-            scratch: n * n,
+            scratch: scratch_words(n),
             positions: n,
             steps: list * (n + 1),
             totals: 4,
         }
     }
 
-    /// For a log of n workers and a list of this length: just enough or more, one of the five one word short, or each of any length.
+    /// For a log of n workers and a list of this length: just enough or more, the scratch n × n words too; one of the five one word short;
+    /// or each of any length.
     fn any(random: &mut Random, n: usize, list: usize) -> Room {
         let mut room = Room::needed(n, list);
         let case = random.below(12);
@@ -445,6 +448,11 @@ impl Room {
                 6..=8 => *length,
                 _ => *length + random.below(9),
             };
+        }
+        match case {
+            5 => room.scratch = scratch_length(random, n),
+            11 => room.scratch = room.scratch.max(n * n),
+            _ => (),
         }
         room
     }
@@ -744,6 +752,21 @@ pub fn length(random: &mut Random, needed: usize) -> usize {
         0 => needed.saturating_sub(1),
         1 => random.below(needed + 1),
         2..=4 => needed + random.within(1, 9),
+        _ => needed,
+    }
+}
+
+/// A number of scratch words to lend for n workers, most often enough: as many as are needed, one fewer or more, any fewer, up to n × n, or
+/// around it.
+pub fn scratch_length(random: &mut Random, n: usize) -> usize {
+    let (needed, square) = (scratch_words(n), n * n);
+    match random.below(12) {
+        0 | 1 => needed.saturating_sub(1),
+        2 => random.below(needed + 1),
+        3 | 4 => needed + 1,
+        5 => random.within(needed, needed.max(square)),
+        6 => random.pick(&[square.saturating_sub(1), square]),
+        7 => square + random.within(1, 9),
         _ => needed,
     }
 }
@@ -1075,7 +1098,7 @@ fn refused_at_event(
     let event = random.below(5) as u32;
     let lengths = Lengths {
         words: 3 * n,
-        scratch: n * n,
+        scratch: scratch_words(n),
         totals: random.below(5),
     };
     let list: Vec<u32> = (0..random.below(4)).map(|_| random.word()).collect();
@@ -1125,13 +1148,13 @@ fn events(random: &mut Random, log: &[u8], accepted: &Log, seen: &mut Seen) {
         seen.add(upper_line(random, log, w, e, words));
         let lengths = Lengths {
             words: length(random, n),
-            scratch: length(random, n * n),
+            scratch: scratch_length(random, n),
             totals: length(random, 2),
         };
         seen.add(lower_cut(random, log, w, e, lengths));
         let lengths = Lengths {
             words: length(random, 3 * n),
-            scratch: length(random, n * n),
+            scratch: scratch_length(random, n),
             totals: length(random, 4),
         };
         let table = table(random);
@@ -1183,7 +1206,7 @@ fn tests(random: &mut Random, log: &[u8], accepted: &Log, seen: &mut Seen) {
     let mut words = vec![0; n];
     let drawn = match random.below(3) {
         0 => reference::upper_line(log, w, e, &mut words),
-        1 => reference::lower_cut(log, w, e, &mut words, &mut [0; SCRATCH_WORDS], &mut [0; 2]),
+        1 => reference::lower_cut(log, w, e, &mut words, &mut scratch(log), &mut [0; 2]),
         _ => 1,
     };
     if drawn != 0 {

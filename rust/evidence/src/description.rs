@@ -6,13 +6,10 @@ use reference::Log;
 /// The most events of a worker.
 pub const MAX_EVENTS: u32 = 65_535;
 
-pub use reference::{MAX_LOG, MAX_WORKERS};
+pub use reference::{scratch_words, MAX_LOG, MAX_WORKERS};
 
 /// The words of a plan of the most workers.
 pub const PLAN_WORDS: usize = 3 * MAX_WORKERS;
-
-/// The scratch words that it needs.
-pub const SCRATCH_WORDS: usize = MAX_WORKERS * MAX_WORKERS;
 
 /// The words of a unit table.
 pub const TABLE_WORDS: usize = 12;
@@ -130,6 +127,11 @@ pub fn worker_count(log: &[u8]) -> usize {
         [_, _, low, high, ..] => usize::from(u16::from_le_bytes([*low, *high])),
         _ => 0,
     }
+}
+
+/// As many scratch words as a lower cut or a plan of a log needs, all 7.
+pub fn scratch(log: &[u8]) -> Vec<u32> {
+    vec![7; scratch_words(worker_count(log).min(MAX_WORKERS))]
 }
 
 /// The length of the packed log of an accepted log.

@@ -1,8 +1,7 @@
-//! What the tests and the benchmark share: seeded numbers, logs made and damaged, calls compared with the reference, and
-//! what a comparison prints where it fails.
+//! What the tests and the benchmark share: seeded numbers, logs made and damaged, calls compared with the reference, what a comparison
+//! prints where it fails, and the stack that calls take.
 
-#![forbid(unsafe_code)]
-#![deny(missing_docs)]
+#![deny(missing_docs, unsafe_code)]
 
 pub mod compare;
 pub mod damage;
@@ -11,3 +10,5 @@ pub mod failure;
 pub mod random;
 pub mod runs;
 pub mod sides;
+pub mod stack;
+pub mod touched;

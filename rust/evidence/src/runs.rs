@@ -517,6 +517,36 @@ pub fn chain(workers: usize, chain: usize, events: usize) -> Description {
     }
 }
 
+/// A log of a chain of long visits with about `events` events and nearly as many turns as there can be: each of the first `chain` workers receives
+/// from the worker before it and then, again and again, one send of each of the others, each of which first receives from the last worker.
+/// The breakpoint is the last event of the chain's last worker. Its visit goes down the chain first, and each visit of the chain then finds
+/// all its senders again, each with a visit of its own below it.
+pub fn wide_chain(workers: usize, chain: usize, events: usize) -> Description {
+    let mut run = InOrder {
+        workers: vec![Worker::default(); workers],
+        stamp: 0,
+    };
+    let last = workers - 1;
+    for link in 0..chain {
+        if link > 0 {
+            run.send(link - 1, link);
+            run.receive(link - 1, link);
+        }
+        for sender in chain..last {
+            run.send(last, sender);
+            run.receive(last, sender);
+            run.send(sender, link);
+        }
+        for k in 0..events / chain {
+            run.receive(chain + k % (last - chain), link);
+        }
+    }
+    take_sets(&mut run.workers, 16);
+    Description {
+        workers: run.workers,
+    }
+}
+
 /// A log of this number of events in which all sends come first. Then each worker receives sends to it, no send twice, in any order.
 pub fn shuffled(workers: usize, events: usize, random: &mut Random) -> Description {
     let mut description = Description {

@@ -2,7 +2,7 @@
 
 use crate::compare::{event, length, table, worker, State, MOST_BYTES};
 use crate::description::{
-    packed_length, worker_count, MARK, MAX_LOG, MAX_WORKERS, SCRATCH_WORDS, TABLE_WORDS,
+    packed_length, scratch, worker_count, MARK, MAX_LOG, MAX_WORKERS, TABLE_WORDS,
 };
 use crate::random::Random;
 use reference::{Log, BUILT_IN};
@@ -96,6 +96,23 @@ pub const REFERENCE: Calls = Calls {
     pack: reference::pack,
 };
 
+/// Calls that do nothing.
+pub const EMPTY: Calls = Calls {
+    log_refusal: |_| 0,
+    vector: |_, _, _, _| 0,
+    upper_line: |_, _, _, _| 0,
+    lower_cut: |_, _, _, _, _, _| 0,
+    load_table: |_| 0,
+    built_in_table: |_| 0,
+    plan: |_, _, _, _, _, _, _| 0,
+    cut_test: |_, _, _| 0,
+    covers: |_, _, _| 0,
+    step: |_, _, _, _| 0,
+    steps: |_, _, _, _, _| 0,
+    restore_and_replay: |_, _, _, _, _, _, _, _, _, _| 0,
+    pack: |_, _, _| 0,
+};
+
 impl Calls {
     /// The words and the totals of the plan of an event, with a unit table; or the refusal.
     pub fn planned(
@@ -105,7 +122,7 @@ impl Calls {
         table: &[u32],
     ) -> Result<(Vec<u32>, [u64; 4]), u32> {
         let n = worker_count(log).min(MAX_WORKERS);
-        let (mut words, mut scratch, mut totals) = (vec![0; 3 * n], vec![0; n * n], [0; 4]);
+        let (mut words, mut scratch, mut totals) = (vec![0; 3 * n], scratch(log), [0; 4]);
         let number = (self.plan)(
             log,
             worker,
@@ -146,29 +163,36 @@ pub struct Arguments {
     pub at: (u32, u32),
     /// The identifier that is asked for.
     pub identifier: u32,
-    /// The plan and the positions of steps, with the cut that is tested.
+    /// The plan and the positions of steps.
     pub state: State,
+    /// The cut that is tested: the plan's.
+    pub cut: Vec<u32>,
     /// The workers of a list of steps.
     pub list: Vec<u32>,
     /// The unit table.
     pub table: Vec<u32>,
-    /// How many words are lent for a line, for a plan, as totals, for the steps of the list and for the built-in table.
+    /// How many words are lent for a line, for a plan, as totals, for the steps of the list and for the built-in table. A lower cut is lent
+    /// two totals fewer.
     pub lent: [usize; 5],
     /// How many bytes and words are lent for the packed log.
     pub packed: (usize, usize),
 }
 
-/// The number of a call, then the words and the totals that it was lent.
-fn given(
-    words: usize,
-    totals: usize,
-    call: impl FnOnce(&mut [u32], &mut [u64]) -> u32,
-) -> Vec<u64> {
-    let (mut words, mut totals) = (vec![7; words], vec![7; totals]);
-    let number = call(&mut words, &mut totals);
-    let words = words.into_iter().map(u64::from);
-    let number = [u64::from(number)].into_iter();
-    number.chain(words).chain(totals).collect()
+/// What a call is lent to write.
+#[derive(Clone, Debug, Default)]
+pub struct Lent {
+    /// A line, a plan, a unit table or the answer of a test.
+    pub words: Vec<u32>,
+    /// Scratch.
+    pub scratch: Vec<u32>,
+    /// The positions of steps.
+    pub positions: Vec<u32>,
+    /// The answers of a list of steps, or the answers with the positions after each.
+    pub steps: Vec<u32>,
+    /// Totals, or the length of a packed log.
+    pub totals: Vec<u64>,
+    /// A packed log.
+    pub out: Vec<u8>,
 }
 
 impl Arguments {
@@ -178,6 +202,7 @@ impl Arguments {
         Arguments {
             at,
             identifier: 0,
+            cut: state.plan.chunks(3).map(|w| w[0]).collect(),
             state,
             table: BUILT_IN.to_vec(),
             lent: [n, 3 * n, 4, list.len() * (n + 1), TABLE_WORDS],
@@ -211,90 +236,85 @@ impl Arguments {
         arguments
     }
 
-    /// What a call gives: its number, then the words, the bytes and the totals that it was lent, but for scratch.
-    pub fn answer(&self, name: &str, calls: &Calls, log: &[u8]) -> Vec<u64> {
-        let ((worker, event), [line, plan, .., table]) = (self.at, self.lent);
+    /// What a call on a log is lent: as much scratch as it needs, the positions from which steps are made, and else 7s.
+    pub fn lend(&self, name: &str, log: &[u8]) -> Lent {
+        let [line, plan, totals, steps, table] = self.lent;
+        let (bytes, written) = self.packed;
+        let of = |words: usize| Lent {
+            words: vec![7; words],
+            ..Lent::default()
+        };
+        let with_scratch = |words: usize, totals: usize| Lent {
+            scratch: scratch(log),
+            totals: vec![7; totals],
+            ..of(words)
+        };
+        let with_positions = |steps: usize| Lent {
+            positions: self.state.positions.clone(),
+            steps: vec![7; steps],
+            ..Lent::default()
+        };
         match name {
-            "log_refusal" => given(0, 0, |_, _| (calls.log_refusal)(log)),
-            "vector" => self.line(calls.vector, log),
-            "upper_line" => self.line(calls.upper_line, log),
-            "lower_cut" => self.with_totals(line, |to, scratch, totals| {
-                (calls.lower_cut)(log, worker, event, to, scratch, totals)
-            }),
-            "load_table" => given(0, 0, |_, _| (calls.load_table)(&self.table)),
-            "built_in_table" => given(table, 0, |to, _| (calls.built_in_table)(to)),
-            "plan" => self.with_totals(plan, |to, scratch, totals| {
-                (calls.plan)(log, worker, event, &self.table, to, scratch, totals)
-            }),
-            "cut_test" => {
-                let cut: Vec<u32> = self.state.plan.chunks(3).map(|w| w[0]).collect();
-                given(1, 0, |to, _| (calls.cut_test)(log, &cut, to))
-            }
-            "covers" => given(1, 0, |to, _| (calls.covers)(log, self.identifier, to)),
-            "step" => self.steps(0, |to, _| (calls.step)(log, &self.state.plan, to, worker)),
-            "steps" => self.steps(self.list.len(), |to, answers| {
-                (calls.steps)(log, &self.state.plan, to, &self.list, answers)
-            }),
-            "restore_and_replay" => self.replay(calls.restore_and_replay, log),
-            "pack" => self.pack(calls.pack, log),
+            "vector" | "upper_line" => of(line),
+            "lower_cut" => with_scratch(line, totals.saturating_sub(2)),
+            "built_in_table" => of(table),
+            "plan" => with_scratch(plan, totals),
+            "cut_test" | "covers" => of(1),
+            "step" => with_positions(0),
+            "steps" => with_positions(self.list.len()),
+            "restore_and_replay" => Lent {
+                positions: vec![7; line],
+                steps: vec![7; steps],
+                ..with_scratch(plan, totals)
+            },
+            "pack" => Lent {
+                totals: vec![7; written],
+                out: vec![7; bytes],
+                ..Lent::default()
+            },
+            _ => Lent::default(),
+        }
+    }
+
+    /// Makes a call with what it is lent; gives its number. This takes nothing from the heap, if the call does not.
+    pub fn make(&self, name: &str, calls: &Calls, log: &[u8], to: &mut Lent) -> u32 {
+        let ((worker, event), plan) = (self.at, &self.state.plan);
+        let (list, table) = (&self.list, &self.table);
+        let Lent {
+            words,
+            scratch,
+            positions,
+            steps,
+            totals,
+            out,
+        } = to;
+        match name {
+            "log_refusal" => (calls.log_refusal)(log),
+            "vector" => (calls.vector)(log, worker, event, words),
+            "upper_line" => (calls.upper_line)(log, worker, event, words),
+            "lower_cut" => (calls.lower_cut)(log, worker, event, words, scratch, totals),
+            "load_table" => (calls.load_table)(table),
+            "built_in_table" => (calls.built_in_table)(words),
+            "plan" => (calls.plan)(log, worker, event, table, words, scratch, totals),
+            "cut_test" => (calls.cut_test)(log, &self.cut, words),
+            "covers" => (calls.covers)(log, self.identifier, words),
+            "step" => (calls.step)(log, plan, positions, worker),
+            "steps" => (calls.steps)(log, plan, positions, list, steps),
+            "restore_and_replay" => (calls.restore_and_replay)(
+                log, worker, event, list, table, words, scratch, positions, steps, totals,
+            ),
+            "pack" => (calls.pack)(log, out, totals),
             other => panic!("there is no call {other}"),
         }
     }
 
-    fn line(&self, call: Line, log: &[u8]) -> Vec<u64> {
-        let (worker, event) = self.at;
-        given(self.lent[0], 0, |to, _| call(log, worker, event, to))
-    }
-
-    /// What a call that is lent scratch gives, with this many words.
-    fn with_totals(
-        &self,
-        words: usize,
-        call: impl FnOnce(&mut [u32], &mut [u32], &mut [u64]) -> u32,
-    ) -> Vec<u64> {
-        let mut scratch = vec![0; SCRATCH_WORDS];
-        given(words, self.lent[2], |to, totals| {
-            call(to, &mut scratch, totals)
-        })
-    }
-
-    /// What a call on the positions gives, with this many words for answers.
-    fn steps(&self, answers: usize, call: impl FnOnce(&mut [u32], &mut [u32]) -> u32) -> Vec<u64> {
-        let positions = &self.state.positions;
-        given(positions.len() + answers, 0, |to, _| {
-            let (to, answers) = to.split_at_mut(positions.len());
-            to.copy_from_slice(positions);
-            call(to, answers)
-        })
-    }
-
-    fn replay(&self, call: RestoreAndReplay, log: &[u8]) -> Vec<u64> {
-        let ((worker, event), list) = (self.at, &self.list);
-        let [line, plan, totals, steps, _] = self.lent;
-        let mut scratch = vec![0; SCRATCH_WORDS];
-        given(plan + line + steps, totals, |to, totals| {
-            let (words, rest) = to.split_at_mut(plan);
-            let (after, steps) = rest.split_at_mut(line);
-            call(
-                log,
-                worker,
-                event,
-                list,
-                &self.table,
-                words,
-                &mut scratch,
-                after,
-                steps,
-                totals,
-            )
-        })
-    }
-
-    fn pack(&self, call: Pack, log: &[u8]) -> Vec<u64> {
-        let (bytes, words) = self.packed;
-        let mut out = vec![7; bytes];
-        let mut given = given(0, words, |_, written| call(log, &mut out, written));
-        given.extend(out.into_iter().map(u64::from));
-        given
+    /// What a call gives: its number, then the words, the totals and the bytes that it was lent, but for scratch.
+    pub fn answer(&self, name: &str, calls: &Calls, log: &[u8]) -> Vec<u64> {
+        let mut lent = self.lend(name, log);
+        let number = self.make(name, calls, log, &mut lent);
+        let words = [lent.words, lent.positions, lent.steps].concat();
+        let words = [number].into_iter().chain(words).map(u64::from);
+        let bytes = lent.out.into_iter().map(u64::from);
+        words.chain(lent.totals).chain(bytes).collect()
     }
 }

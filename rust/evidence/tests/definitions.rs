@@ -3,7 +3,7 @@
 use evidence::compare::{loaded_table, Seen};
 use evidence::damage::damaged;
 use evidence::description::{
-    checkpoint_set, get, packed_length, set_form, worker_count, Description, Worker, MARK,
+    checkpoint_set, get, packed_length, scratch, set_form, worker_count, Description, Worker, MARK,
     TABLE_WORDS,
 };
 use evidence::failure::{words, Call, Difference, Meaning};
@@ -325,7 +325,7 @@ fn one_event(
         "the cut is not consistent".to_string()
     });
     let bits = (0..n).filter(|&w| cut[w] > 0).fold(0, |b, w| b | 1u64 << w);
-    let (mut scratch, mut totals) = (vec![0; n * n], [0; 2]);
+    let (mut scratch, mut totals) = (scratch(log), [0; 2]);
     let number = reference::lower_cut(log, worker, event, &mut words, &mut scratch, &mut totals);
     call("reference::lower_cut").returned(number, 0);
     call("reference::lower_cut").same([
@@ -432,7 +432,7 @@ fn plan_and_steps(
             expected.extend(&positions);
         }
     }
-    let (mut words, mut scratch, mut after) = (vec![0; 3 * n], vec![0; n * n], vec![0; n]);
+    let (mut words, mut scratch, mut after) = (vec![0; 3 * n], scratch(call.log), vec![0; n]);
     let (mut steps, mut counted) = (vec![0; expected.len()], [0; 4]);
     let number = reference::restore_and_replay(
         call.log,

@@ -2,7 +2,7 @@
 //! at or below the lower cut, the plan starts no worker before that set's checkpoint. The checkpoints are those of the content that a log
 //! was made from.
 
-use evidence::description::{checkpoint_set, Description, Worker, MAX_WORKERS};
+use evidence::description::{checkpoint_set, scratch, Description, Worker, MAX_WORKERS};
 use evidence::failure::{words, Call, Meaning};
 use evidence::random::Random;
 use evidence::runs::{any_form, run, Shape};
@@ -164,7 +164,7 @@ impl Case {
     fn planned(&self, (worker, event): (u32, u32)) -> Planned {
         let (log, n) = (&self.log, self.workers.len());
         let at = [("worker", worker.into()), ("event", event.into())];
-        let (mut cut, mut scratch) = (vec![0; n], vec![0; n * n]);
+        let (mut cut, mut scratch) = (vec![0; n], scratch(log));
         let number = (EXPORTED.lower_cut)(log, worker, event, &mut cut, &mut scratch, &mut [0; 2]);
         self.call("lower_cut", &at).returned(number, 0);
         let planned = EXPORTED.planned(log, (worker, event), &BUILT_IN);

@@ -46,7 +46,7 @@ fn t1_to_t3(log: &[u8], vector: Line) {
 fn t4(log: &[u8], lower_cut: LowerCut) {
     let (mut words, mut totals) = ([9; 4], [9; 3]);
     assert_eq!(
-        lower_cut(log, 0, 2, &mut words, &mut [0; 9], &mut totals),
+        lower_cut(log, 0, 2, &mut words, &mut [0; 6], &mut totals),
         0
     );
     assert_eq!(words, [2, 3, 2, 9]);
@@ -70,7 +70,7 @@ fn t6_and_t7(form: u16, plan: Plan) {
     ] {
         let (mut words, mut totals) = ([9; 10], [9; 5]);
         let mut call = |log: &[u8]| {
-            let number = plan(log, 0, 2, table, &mut words, &mut [0; 9], &mut totals);
+            let number = plan(log, 0, 2, table, &mut words, &mut [0; 6], &mut totals);
             (number, words, totals)
         };
         let (number, words, totals) = call(&tube(form));
@@ -142,7 +142,7 @@ fn plan_and_steps(log: &[u8], restore_and_replay: RestoreAndReplay) {
             workers,
             &BUILT_IN,
             &mut words,
-            &mut [0; 9],
+            &mut [0; 6],
             &mut positions,
             &mut steps[..room],
             &mut totals,

@@ -6,8 +6,8 @@ use evidence::compare::{
     restore_and_replay, step, steps, upper_line, vector, Lengths, Replayed, Room, Seen, State,
 };
 use evidence::description::{
-    get, put, worker_count, Description, Event, Worker, MAX_EVENTS, MAX_LOG, MAX_WORKERS,
-    SCRATCH_WORDS,
+    get, put, scratch, scratch_words, worker_count, Description, Event, Worker, MAX_EVENTS,
+    MAX_LOG, MAX_WORKERS,
 };
 use evidence::failure::Call;
 use evidence::random::Random;
@@ -55,7 +55,7 @@ fn at_event(random: &mut Random, log: &[u8], worker: u32, event: u32, number: u3
     let n = worker_count(log);
     let lengths = Lengths {
         words: 3 * n,
-        scratch: n * n,
+        scratch: scratch_words(n),
         totals: 4,
     };
     let returned = |random: &Random, name, found| {
@@ -242,7 +242,7 @@ fn many_visits() {
         let description = deep(MAX_WORKERS, levels);
         let log = description.pack();
         is_refused(&log, 0);
-        let (mut words, mut scratch, mut totals) = ([0; MAX_WORKERS], [0; SCRATCH_WORDS], [0; 2]);
+        let (mut words, mut scratch, mut totals) = ([0; MAX_WORKERS], scratch(&log), [0; 2]);
         let number =
             reference::lower_cut(&log, LAST as u32, 1, &mut words, &mut scratch, &mut totals);
         assert_eq!(

@@ -86,6 +86,15 @@ pub(crate) fn workers_word(cut: &[u32]) -> u64 {
         .sum()
 }
 
+/// The scratch words that a lower cut or a plan of a log of n workers needs: 2 × n, or one where n is 1.
+pub fn scratch_words(n: usize) -> usize {
+    if n == 1 {
+        1
+    } else {
+        2 * n
+    }
+}
+
 /// The lower cut of a breakpoint, to n words; visits and workers word, to two totals.
 pub fn lower_cut(
     log: &[u8],
@@ -109,7 +118,7 @@ fn try_lower_cut(
     let (log, i) = breakpoint(log, worker, event)?;
     let n = log.size();
     refuse_if(words.len() < n || totals.len() < 2, 14)?;
-    refuse_if(scratch.len() < n * n, 15)?;
+    refuse_if(scratch.len() < scratch_words(n), 15)?;
     let (cut, visits) = figure2(&log, i, event);
     words[..n].copy_from_slice(&cut);
     totals[0] = visits;

@@ -1,5 +1,5 @@
-//! The calls of document 01 with notes 1, 2, 3, 6 and 7 of document 02 (form 2 of the log, the packed log, the covering test, withdrawn
-//! checkpoints, unit tables), written in Rust from their text alone.
+//! The calls of document 01 with notes 1, 2, 3, 6, 7 and 8 of document 02 (form 2 of the log, the packed log, the covering test, withdrawn
+//! checkpoints, unit tables, the scratch of a plan), written in Rust from their text alone.
 //!
 //! Tests and benchmarks compare the exported functions with these. Each call has the parameters of the exported function of its
 //! name and does the same with every lent word and byte: a refusal returns its number and changes none; on success those past the
@@ -16,7 +16,7 @@ mod replay;
 mod restore;
 mod units;
 
-pub use causality::{cut_test, lower_cut, upper_line, vector};
+pub use causality::{cut_test, lower_cut, scratch_words, upper_line, vector};
 pub use log::{
     accept, log_refusal, Checkpoint, Event, Form, Log, Worker, FORMS, MAX_LOG, MAX_WORKERS,
 };

@@ -1,5 +1,6 @@
 //! The replay machine.
 
+use crate::causality::scratch_words;
 use crate::log::{accept, breakpoint, number, refuse_if, Log};
 use crate::restore::write_plan;
 use crate::units::{loaded, units};
@@ -145,7 +146,7 @@ fn try_restore_and_replay(
     let stepped = workers.len() as u128 * (n as u128 + 1);
     refuse_if(words.len() < 3 * n || totals.len() < 4, 14)?;
     refuse_if(positions.len() < n || (steps.len() as u128) < stepped, 14)?;
-    refuse_if(scratch.len() < n * n, 15)?;
+    refuse_if(scratch.len() < scratch_words(n), 15)?;
     let table = loaded(table)?;
     write_plan(&log, i, event, words, totals);
     totals[2] = units(&log, &table, words);

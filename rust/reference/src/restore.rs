@@ -1,6 +1,6 @@
 //! The plan and covering sets.
 
-use crate::causality::{figure2, workers_word};
+use crate::causality::{figure2, scratch_words, workers_word};
 use crate::log::{accept, breakpoint, number, refuse_if, Checkpoint, Log};
 use crate::units::{loaded, units};
 
@@ -57,7 +57,7 @@ fn try_plan(
     let (log, i) = breakpoint(log, worker, event)?;
     let n = log.size();
     refuse_if(words.len() < 3 * n || totals.len() < 4, 14)?;
-    refuse_if(scratch.len() < n * n, 15)?;
+    refuse_if(scratch.len() < scratch_words(n), 15)?;
     let table = loaded(table)?;
     write_plan(&log, i, event, words, totals);
     totals[2] = units(&log, &table, words);

@@ -5,6 +5,9 @@
 //! functions have no precondition, so any numbers and any slices are good. A refusal changes no lent word and no lent byte. On success
 //! those past the named ones are untouched; scratch alone is free.
 //!
+//! Where a call is lent scratch, it needs 2 × n words for a log of n workers, or one where n is 1. More may be lent. What the scratch holds
+//! before the call does not matter; after a success it is free, and a refusal leaves it as it was.
+//!
 //! This module has the declarations and all `unsafe` code of the crate. A slice is a pointer and then a length. The exported
 //! functions read and write within the slices that they are lent and keep none of them; nothing checks that the declarations here
 //! are those of the library.
@@ -174,7 +177,7 @@ pub fn upper_line(log: &[u8], worker: u32, event: u32, words: &mut [u32]) -> u32
     }
 }
 
-/// Writes the lower cut of a breakpoint to n words, and the visits and the workers word to two totals. Scratch is n × n words.
+/// Writes the lower cut of a breakpoint to n words, and the visits and the workers word to two totals.
 pub fn lower_cut(
     log: &[u8],
     worker: u32,
@@ -214,8 +217,8 @@ pub fn built_in_table(table: &mut [u32]) -> u32 {
 
 /// Writes the plan of a breakpoint to 3 × n words (cut, start, identifier of each worker), and the visits, events, units and the
 /// workers word to four totals. The units are by the unit table, on which nothing else of the plan depends; 27, where it does not load,
-/// comes after 15. Scratch is n × n words. For every identifier that covers and whose checkpoints are all at or below the cut, no start
-/// is before the worker's checkpoint with that identifier.
+/// comes after 15. For every identifier that covers and whose checkpoints are all at or below the cut, no start is before the worker's
+/// checkpoint with that identifier.
 pub fn plan(
     log: &[u8],
     worker: u32,
@@ -317,7 +320,7 @@ pub fn steps(
 
 /// Writes the plan of a breakpoint to 3 × n words and its totals, as [`plan`] does with the same unit table, and makes one call of
 /// [`step`] for each number of `workers` from the planned starts. For each of these calls its answer and then the n positions after it
-/// stand in `steps`, n + 1 words each; the positions after the list stand in `positions`, n words. Scratch is n × n words.
+/// stand in `steps`, n + 1 words each; the positions after the list stand in `positions`, n words.
 #[allow(clippy::too_many_arguments)]
 pub fn restore_and_replay(
     log: &[u8],

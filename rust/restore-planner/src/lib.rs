@@ -23,6 +23,11 @@
 //!
 //! Workers are numbered from 0, the events of a worker from 1. The library has no state: each method of a log or a replay hands it
 //! the bytes and it tests them again, so many steps are made sooner by one [`Replay::run`] than one by one.
+//!
+//! Plans can be worked out beside each other, on several threads, since each call has its own words. Beside those for what it gives, a
+//! lower cut or a plan needs scratch: 2 × n words of 32 bits for a log of n workers, or one where n is 1, which [`Log`] takes from the heap
+//! for the call. It takes at most 20,888 bytes of stack at 64 workers, on a log of form 1 on which 64 visits are open at a time: 320 for each
+//! of them, whatever the number of workers, so 41,368 at 128. On a log of form 2 the test of the log, which comes first, takes 77,128.
 
 #![deny(missing_docs, unsafe_code)]
 

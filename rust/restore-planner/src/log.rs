@@ -290,9 +290,13 @@ impl<'a> Log<'a> {
         Ok(bytes)
     }
 
-    /// Scratch words for a call.
+    /// Scratch words for a call, as many as it needs.
     fn scratch(&self) -> Vec<u32> {
-        vec![0; self.workers * self.workers]
+        let words = match self.workers {
+            1 => 1,
+            workers => 2 * workers,
+        };
+        vec![0; words]
     }
 }
 
@@ -311,5 +315,22 @@ impl fmt::Debug for Log<'_> {
             .field("length", &self.bytes.len())
             .field("workers", &self.workers)
             .finish()
+    }
+}
+
+#[cfg(test)]
+mod tests {
+    use super::Log;
+
+    /// By document 02, note 8: no more than is needed.
+    #[test]
+    fn scratch_of_each_worker_count() {
+        for (workers, words) in [(1, 1), (2, 4), (3, 6), (64, 128)] {
+            let log = Log {
+                bytes: &[],
+                workers,
+            };
+            assert_eq!(log.scratch().len(), words);
+        }
     }
 }

@@ -39,7 +39,7 @@ pub enum Refusal {
     Event,
     /// 14: there are fewer words than the call reads or writes.
     Words,
-    /// 15: the scratch is too short.
+    /// 15: the scratch has fewer than two words for each worker, or none where the log has one worker.
     Scratch,
     /// 16: a cut is over its worker's event count; for a step, some worker is without start ≤ position ≤ cut ≤ event count.
     Cut,
@@ -162,7 +162,7 @@ impl Refusal {
                 "too few words were given; a cut has one for each worker of the log, a plan has one entry for each"
             }
             Refusal::Scratch => {
-                "too little scratch was given; the worker count times itself is enough"
+                "too little scratch was given; two words for each worker of the log are enough"
             }
             Refusal::Cut => {
                 "a worker's cut is past its last event, or its position is not between its start and its cut"

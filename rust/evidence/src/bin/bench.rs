@@ -4,23 +4,27 @@
 //!
 //! The three are run in turn, and each time is the least of many. Where logs are short, some twenty of them are gone through in turn,
 //! since the processor learns the branches of one that is read again and again. The lent words are not cleared between runs; a call of
-//! the exported function and one of the reference have their own. Every call tests the whole log, so each ratio has that in it.
+//! the exported function and one of the reference have their own, with as much scratch as is needed. Every call tests the whole log, so each
+//! ratio has that in it.
 //! The logs are packed; `pack_moved` is the packing of the same logs with their sections in the opposite order and gaps between them.
 //! `covers` is the test of an identifier that covers; of any other one it ends at the first receive that is lost. The plan is given the
 //! built-in unit table.
 //!
 //! At the end the test of the log and the plan are timed on form 2 beside form 1 of the same logs, in the same place in memory;
 //! `cargo run --release --bin bench forms` times nothing else, and `bench pack` only the calls whose names begin so. Behind that stands the
-//! plan of a log with 1,024 withdrawn checkpoints in each worker (`bench withdrawn`).
+//! plan of a log with 1,024 withdrawn checkpoints in each worker (`bench withdrawn`), and last what each call is lent and takes of the
+//! stack (`bench memory`).
 
 use evidence::compare::State;
 use evidence::description::{
-    set_form, Description, MARK, MAX_EVENTS, MAX_LOG, MAX_WORKERS, PLAN_WORDS, SCRATCH_WORDS,
+    scratch, set_form, Description, MARK, MAX_EVENTS, MAX_LOG, MAX_WORKERS, PLAN_WORDS,
 };
 use evidence::random::Random;
 use evidence::runs::{
-    chain, deep, different_sends, hub, ring, run, shared_sends, two_level_hub, Shape,
+    chain, deep, different_sends, hub, ring, run, shared_sends, two_level_hub, wide_chain, Shape,
 };
+use evidence::sides::NAMES;
+use evidence::stack::{cases, of_forms};
 use reference::BUILT_IN;
 use restore_planner::calls;
 use std::hint::black_box;
@@ -67,7 +71,7 @@ impl Case {
         let worker = worker as u32;
         let state = State::planned(&log, worker, event).expect("the plan of the breakpoint");
         let list = state.replay(&accepted).expect("the plan works");
-        let (mut words, mut scratch, mut totals) = ([0; MAX_WORKERS], [0; SCRATCH_WORDS], [0; 2]);
+        let (mut words, mut scratch, mut totals) = ([0; MAX_WORKERS], scratch(&log), [0; 2]);
         reference::lower_cut(&log, worker, event, &mut words, &mut scratch, &mut totals);
         Case {
             events: accepted.workers.iter().map(|w| w.count() as usize).sum(),
@@ -91,7 +95,7 @@ impl Case {
     }
 }
 
-/// Logs of one shape and size, which are gone through in turn.
+/// Logs of one shape and size, and so of one worker count, which are gone through in turn.
 struct Input {
     name: String,
     cases: Vec<Case>,
@@ -155,6 +159,9 @@ fn families() -> Vec<Vec<Input>> {
     families.push(family.into());
     let family = [20_000, 80_000, 300_000].map(|e| one("chain", &chain(MAX_WORKERS, 16, e), 15));
     families.push(family.into());
+    let family =
+        [20_000, 80_000, 300_000].map(|e| one("wide chain", &wide_chain(MAX_WORKERS, 5, e), 4));
+    families.push(family.into());
     let family = [20_000, 80_000, 300_000].map(|e| {
         one(
             &format!("ring, {MAX_WORKERS} workers"),
@@ -186,7 +193,7 @@ impl Words {
         let longest = input.cases.iter().map(|case| case.list.len()).max();
         Words {
             words: vec![0; PLAN_WORDS],
-            scratch: vec![0; SCRATCH_WORDS],
+            scratch: scratch(&input.cases[0].log),
             totals: vec![0; 4],
             positions: vec![0; MAX_WORKERS],
             answers: vec![0; longest.unwrap_or(0) + 1],
@@ -424,9 +431,11 @@ fn main() {
             print_guard(&print_calls(""));
             print_forms();
             print_withdrawn();
+            print_memory();
         }
         Some("forms") => print_forms(),
         Some("withdrawn") => print_withdrawn(),
+        Some("memory") => print_memory(),
         Some(start) => drop(print_calls(start)),
     }
 }
@@ -697,6 +706,46 @@ fn print_withdrawn() {
             micros(times.exported),
             micros(times.reference),
             micros(times.exported) / micros(times.reference)
+        );
+    }
+}
+
+/// Prints for each call at the most workers the words that it is lent to write, and the stack that it takes.
+fn print_memory() {
+    let cases = cases();
+    let [case, ..] = &cases;
+    println!();
+    println!(
+        "memory of a call on logs of {MAX_WORKERS} workers: words of 32 bits that it is lent to write, and of stack that it takes, the most on {} logs",
+        cases.len()
+    );
+    println!(
+        "totals: two words each; a step: words for each step of a list; out: a packed log of {} bytes",
+        case.arguments.packed.0
+    );
+    println!(
+        "  {:<18} {:>6} {:>8} {:>7} {:>10} {:>7} {:>8} {:>14} {:>14}",
+        "call",
+        "words",
+        "scratch",
+        "totals",
+        "positions",
+        "a step",
+        "out",
+        "stack, form 1",
+        "stack, form 2"
+    );
+    for call in NAMES {
+        let lent = case.arguments.lend(call, &case.log);
+        let [one, two] = of_forms(call, &cases).map(|bytes| bytes / 4);
+        println!(
+            "  {call:<18} {:>6} {:>8} {:>7} {:>10} {:>7} {:>8} {one:>14} {two:>14}",
+            lent.words.len(),
+            lent.scratch.len(),
+            2 * lent.totals.len(),
+            lent.positions.len(),
+            lent.steps.len() / case.arguments.list.len(),
+            lent.out.len() / 4,
         );
     }
 }

@@ -1,14 +1,15 @@
-//! Measures the stack that each exported call needs, on logs that make it go deep.
+//! Measures the stack that each exported call takes, on logs that make it go deep.
 //!
-//! `cargo run --release --bin stack`: for each call the smallest stack of a thread on which it gives what the reference gives, what the
-//! thread itself needs included. Each try is a process of its own, which is ended where the stack is too small.
+//! `cargo run --release --bin stack`: for each call the bytes of stack that it touches, on logs of form 1 and of form 2; for the calls
+//! that make visits those on logs of 16, 32 and 64 workers on which as many visits are open at a time; and for each call the smallest stack of a
+//! thread on which it gives what the reference gives, what the thread itself needs included. Each try of the last is a process of its own,
+//! which is ended where the stack is too small.
 //!
 //! `stack CALL BYTES`: one try.
 
-use evidence::compare::State;
-use evidence::description::{Description, MAX_EVENTS, MAX_WORKERS};
-use evidence::runs::{add_falling, deep, different_sends, ring, shared_sends};
-use evidence::sides::{Arguments, EXPORTED, NAMES, REFERENCE};
+use evidence::description::MAX_WORKERS;
+use evidence::sides::{EXPORTED, NAMES, REFERENCE};
+use evidence::stack::{cases, of_forms, Case, OfVisits, VISITED};
 use std::process::{Command, ExitCode, Stdio};
 use std::thread::Builder;
 
@@ -16,35 +17,9 @@ use std::thread::Builder;
 const PAGE: usize = 4_096;
 const LARGEST: usize = 256 * PAGE;
 
-/// The logs, of form 2 and with receives that do not rise, and the breakpoint's worker on each.
-fn logs() -> [(Vec<u8>, usize); 3] {
-    let last = MAX_WORKERS - 1;
-    let falling = |mut description: Description| {
-        add_falling(&mut description);
-        description.pack_as(2)
-    };
-    let senders: Vec<usize> = (1..MAX_WORKERS).collect();
-    let sends = different_sends(&senders, &[], MAX_EVENTS as usize);
-    [
-        (falling(deep(MAX_WORKERS, 16)), last),
-        (falling(ring(MAX_WORKERS, 20_000)), last),
-        (shared_sends(MAX_WORKERS, 0, &sends), 0),
-    ]
-}
-
-/// Arguments for the last event of a worker and the first steps of its plan.
-fn arguments(log: &[u8], worker: usize) -> Arguments {
-    let accepted = reference::accept(log).expect("an accepted log");
-    let at = (worker as u32, accepted.workers[worker].count());
-    let state = State::planned(log, at.0, at.1).expect("a plan");
-    let list = vec![0, worker as u32, MAX_WORKERS as u32];
-    Arguments::new(at, state, list, &accepted)
-}
-
 /// Makes a call on each log, on a thread with a stack of this many bytes.
 fn try_call(call: &str, bytes: usize) {
-    for (log, worker) in logs() {
-        let arguments = arguments(&log, worker);
+    for Case { log, arguments } in cases() {
         let name = call.to_string();
         let (given, lent) = (arguments.clone(), log.clone());
         let thread = Builder::new()
@@ -81,14 +56,53 @@ fn smallest(call: &str) -> usize {
     enough
 }
 
+/// Prints the bytes of stack that each call takes.
+fn print_bytes() {
+    let cases = cases();
+    println!(
+        "bytes of stack that the call takes, the most on {} logs of {MAX_WORKERS} workers:",
+        cases.len()
+    );
+    println!("  {:<18} {:>7} {:>7}", "call", "form 1", "form 2");
+    for call in NAMES {
+        let [one, two] = of_forms(call, &cases);
+        println!("  {call:<18} {one:>7} {two:>7}");
+    }
+}
+
+/// Prints the bytes of stack of the visits of the calls that make them.
+fn print_visits() {
+    println!("bytes of stack on logs of form 1 on which as many visits are open at a time as there are workers:");
+    let [few, more, most] = VISITED.map(|workers| format!("{workers} workers"));
+    println!(
+        "  {:<18} {few:>10} {more:>10} {most:>10} {:>10} {:>11}",
+        "call", "each visit", "128 workers"
+    );
+    for call in ["lower_cut", "plan", "restore_and_replay"] {
+        let OfVisits {
+            bytes: [few, more, most],
+            of_each,
+            of_128,
+        } = OfVisits::new(call);
+        println!("  {call:<18} {few:>10} {more:>10} {most:>10} {of_each:>10} {of_128:>11}");
+    }
+}
+
+/// Prints the smallest stack of a thread that makes each call.
+fn print_smallest() {
+    println!("the smallest stack of a thread that makes the call, in KiB:");
+    for call in NAMES {
+        println!("  {call:<18} {:>4}", smallest(call) * PAGE / 1_024);
+    }
+}
+
 fn main() -> ExitCode {
     let arguments: Vec<String> = std::env::args().skip(1).collect();
     match &arguments[..] {
         [] => {
-            println!("the smallest stack of a thread that makes the call, in KiB:");
-            for call in NAMES {
-                println!("  {call:<18} {:>4}", smallest(call) * PAGE / 1_024);
-            }
+            print_bytes();
+            print_visits();
+            print_smallest();
             ExitCode::SUCCESS
         }
         [call, bytes] => {
