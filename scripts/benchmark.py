@@ -7,7 +7,7 @@
 The first table gives, for each call and family of logs, the smallest and the largest ratio of the exported call's time to the
 reference's, and in its last row of log_refusal's time to that of a plain pass over the log's bytes. The second one has form 2 beside
 form 1 of the same logs: for each call and order of the receives the smallest and the largest of each column over the sizes of logs.
-It is put at the end of the page where the page has none.
+It is put at the end of the page where the page has none. The memory of each call is in the raw output alone.
 """
 import math
 import pathlib
@@ -18,11 +18,12 @@ import sys
 TOP = pathlib.Path(__file__).resolve().parent.parent
 RAW = TOP / 'docs' / 'benchmark.txt'
 PAGE = TOP / 'docs' / 'BENCHMARK.md'
-FAMILIES = ['run', 'deep', 'hub', 'two-level hub', 'chain', 'ring']
+FAMILIES = ['run', 'deep', 'hub', 'two-level hub', 'chain', 'wide chain', 'ring']
 AIM = 1.3
 PASS = 'log_refusal over a plain pass'
 AIMS = {'pack': 1.5, 'pack_moved': 1.5, PASS: 3.5}
 FORMS = 'form 2 beside form 1'
+MEMORY = 'memory of a call'
 FORMS_HEAD = ['call on form 2', 'ns an event of form 1', 'of form 2', 'form 2 over form 1', "the reference's",
               'exported over reference', 'growth']
 FORM_AIMS = {'in order': 2.0, 'in any order': 4.0}
@@ -61,7 +62,7 @@ def table(found):
 def forms(raw):
     """{(call, order): a row of numbers for each size}: form 1, form 2, 2/1, the reference's three, exp/ref, the growths where there are."""
     found, order = {}, None
-    for line in raw.split(FORMS)[-1].split('\n'):
+    for line in raw.split(FORMS)[-1].split(MEMORY)[0].split('\n'):
         head = re.match(r'receives (in order|in any order), \d+ workers(.*): \d+ events, ', line)
         if head:
             order = head.groups()
