@@ -12,17 +12,18 @@ use lib.Dec.{eqb, leb, ltb}
 use Rattle.ranges.proofs.Any.{any-each}
 use Rattle.ranges.proofs.Bools.{or-false-left, or-false-right, and-true-left, and-true-right, and-false-right}
 use Rattle.ranges.proofs.Order.{lt-or-le}
-use Rattle.log.specs.declared.Kind.the-variants.{Rest}
-use Rattle.log.specs.declared.Event.{Event}
+use Rattle.records.specs.declared.Kind.the-variants.{Rest}
+use Rattle.records.specs.declared.Event.{Event}
 use Rattle.log.specs.Header.{layoutRefusal}
 use Rattle.log.specs.Layout.{workersOf, logOf}
-use Rattle.log.specs.Model.{Workers, workerCount, eventCount, eventOf, checkpointCount, checkpointOf, isSend, isReceive}
+use Rattle.log.specs.Model.{Workers, workerCount, eventCount, eventOf, checkpointCount, checkpointOf}
+use Rattle.records.specs.Event.{isSend, isReceive}
 use Rattle.lent.proofs.Lent.{peel, or-else-zero}
 use Rattle.log.proofs.Readable.{readable}
-use Rattle.log.proofs.EventKinds.{no-receive, not-send, some-kind}
+use Rattle.records.proofs.EventKinds.{no-receive, not-send, some-kind}
 use Rattle.log.proofs.Read.{size-read, workers-few, count-field, checkpoints-field, role-field, worker-within, worker-within′, event-none, event-past, checkpoint-initial, checkpoint-past}
-use Rattle.accept.specs.Records.{kindFault, peerFault, sendFault, fieldFault, stampFault, sendOf, sourceFault, orderFault, eventFault}
-use Rattle.accept.specs.Records.{checkpointFault, recordFault, recordCount, workerFault, someRecord}
+use Rattle.record_tests.specs.Records.{kindFault, peerFault, sendFault, fieldFault, stampFault, sendOf, sourceFault, orderFault, eventFault}
+use Rattle.record_tests.specs.Records.{checkpointFault, recordFault, recordCount, workerFault, someRecord}
 use Rattle.repeats.specs.Repeats.{repeatFault}
 use Rattle.accept.specs.Refusal.{eventsRefusal, recordsRefusal, contentRefusal, logRefusal}
 use Rattle.accept.specs.WellFormed.{Sent, WellFormed}

@@ -3,7 +3,7 @@ use Prim.Native.Nat.{_+_}
 use native.Mathlib.Omega.{arith}
 use Rattle.log.specs.Model.{Workers}
 use Rattle.repeats.specs.Inner.Again.{Messages}
-use Rattle.accept.specs.Records.{sendOf}
+use Rattle.record_tests.specs.Records.{sendOf}
 use Rattle.accept.specs.WellFormed.{WellFormed}
 
 pub messages : (log : Workers) → WellFormed log → Messages log

@@ -12,13 +12,13 @@ use Rattle.ranges.proofs.Bools.{and-true-left, and-true-right, and-false-right}
 use Rattle.ranges.proofs.Order.{eq-or-ne}
 use Rattle.lent.specs.Lent.{orElse}
 use Rattle.lent.proofs.Lent.{or-else-first, or-else-second}
-use Rattle.log.specs.Forms.{secondForm, receivesOnce}
+use Rattle.records.specs.Forms.{secondForm, receivesOnce}
 use Rattle.log.specs.Header.{lengthFault, formFault, sizeFault, headerFault, someEntry, entriesRefusal, layoutRefusal}
 use Rattle.log.specs.Layout.{formField, workersOf, logOf}
 use Rattle.log.specs.Model.{Workers}
 use Rattle.repeats.specs.Repeats.{someRepeat, repeatFault, ReceivedOnce, ReceivedTwice}
 use Rattle.repeats.proofs.Again.{repeat-pair, pair-repeats}
-use Rattle.accept.specs.Records.{someRecord}
+use Rattle.record_tests.specs.Records.{someRecord}
 use Rattle.accept.specs.Refusal.{eventsRefusal, recordsRefusal, contentRefusal, logRefusal}
 use Rattle.accept.proofs.Accepted.{receive-within, accepted-once}
 

@@ -5,9 +5,9 @@ use Prim.Native.Nat.{ℕ, _+_}
 use lib.Dec.{eqb}
 use Rattle.ranges.proofs.Any.{any-each, any-every}
 use Rattle.ranges.proofs.Bools.{or-false-left, or-false-right}
-use Rattle.log.specs.declared.Event.{Event}
+use Rattle.records.specs.declared.Event.{Event}
 use Rattle.log.specs.Model.{Workers, workerCount, eventOf}
-use Rattle.accept.specs.Records.{fieldFault, stampFault, sourceFault, orderFault, anyFault, eventFault, recordFault, recordCount, workerFault, someRecord}
+use Rattle.record_tests.specs.Records.{fieldFault, stampFault, sourceFault, orderFault, anyFault, eventFault, recordFault, recordCount, workerFault, someRecord}
 use Rattle.accept.specs.Refusal.{eventsRefusal}
 
 module _ (log : Workers) (none : someRecord 0 log ≡ false) where

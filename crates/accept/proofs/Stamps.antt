@@ -7,8 +7,9 @@ use Prim.Native.Nat.{ℕ, _+_, _<_, _≤_}
 use native.Mathlib.Nat.{eq-or-lt-of-le}
 use native.Mathlib.Omega.{arith}
 use Rattle.ranges.proofs.Order.{rising}
-use Rattle.log.specs.Model.{Workers, eventCount, eventOf, isReceive}
-use Rattle.accept.specs.Records.{sendOf}
+use Rattle.log.specs.Model.{Workers, eventCount, eventOf}
+use Rattle.records.specs.Event.{isReceive}
+use Rattle.record_tests.specs.Records.{sendOf}
 use Rattle.accept.specs.WellFormed.{WellFormed}
 
 module _ (log : Workers) (formed : WellFormed log) where

@@ -3,13 +3,15 @@
 use mathlib.Core.Path.{_≡_, refl, ap}
 use Rattle.ranges.specs.Fold.{anyBelow, tabulate}
 use Rattle.bytes_le.specs.Little.{le}
-use Rattle.log.specs.Model.{Log, workerCount, worker, eventCount, eventOf, checkpointCount, checkpointOf, isSend, isUnlogged, isLogged, isReceive}
-use Rattle.log.specs.Layout.{field, section, eventSection, checkpointSection, eventRecord, checkpointRecord, workerOf, workersOf, logOf}
-use Rattle.log.specs.Forms.{isForm, marksWithdrawn, receivesOnce}
-use Rattle.log.specs.Mark.{hasMark, withoutMark}
+use Rattle.log.specs.Model.{Log, workerCount, worker, eventCount, eventOf, checkpointCount, checkpointOf}
+use Rattle.records.specs.Event.{isSend, isUnlogged, isLogged, isReceive, eventRecord}
+use Rattle.log.specs.Layout.{field, section, eventSection, checkpointSection, workerOf, workersOf, logOf}
+use Rattle.records.specs.Checkpoint.{checkpointRecord}
+use Rattle.records.specs.Forms.{isForm, marksWithdrawn, receivesOnce}
+use Rattle.records.specs.Mark.{hasMark, withoutMark}
 use Rattle.log.specs.Header.{lengthFault, formFault, sizeFault, headerFault, limitFault, outside, sectionFault, entryFault, someEntry, entriesRefusal, layoutRefusal}
-use Rattle.accept.specs.Records.{kindFault, peerFault, sendFault, fieldFault, stampFault, sendOf, sourceFault, orderFault, anyFault, eventFault}
-use Rattle.accept.specs.Records.{checkpointFault, recordFault, recordCount, workerFault, someRecord}
+use Rattle.record_tests.specs.Records.{kindFault, peerFault, sendFault, fieldFault, stampFault, sendOf, sourceFault, orderFault, anyFault, eventFault}
+use Rattle.record_tests.specs.Records.{checkpointFault, recordFault, recordCount, workerFault, someRecord}
 use Rattle.lent.specs.Lent.{orElse}
 use Rattle.repeats.specs.Repeats.{repeatFault}
 use Rattle.accept.specs.Refusal.{eventsRefusal, recordsRefusal, contentRefusal, logRefusal}

@@ -1,5 +1,3 @@
-pub mod Records
 pub mod Refusal
 pub mod WellFormed
 pub mod Tube
-pub mod Inner

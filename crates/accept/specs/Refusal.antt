@@ -8,7 +8,7 @@ use Rattle.log.specs.Header.{layoutRefusal}
 use Rattle.log.specs.Layout.{workersOf, logOf}
 use Rattle.log.specs.Model.{Log, Workers}
 use Rattle.repeats.specs.Repeats.{repeatFault}
-use Rattle.accept.specs.Records.{someRecord}
+use Rattle.record_tests.specs.Records.{someRecord}
 
 -- 7 to 10
 unfoldable pub eventsRefusal : Workers → ℕ

@@ -3,7 +3,7 @@
 use mathlib.Core.Bool.{false}
 use mathlib.Core.List.{List, [], _∷_}
 use Prim.Native.Nat.{ℕ}
-use Rattle.log.specs.declared.Kind.the-variants.{Send, Unlogged}
+use Rattle.records.specs.declared.Kind.the-variants.{Send, Unlogged}
 use Rattle.log.specs.Model.{Log}
 
 -- the bytes of the log, packed

@@ -4,10 +4,11 @@ use mathlib.Core.Path.{_≡_}
 use mathlib.Core.Logic.{_⊎_, _≢_}
 use mathlib.Core.Bool.{true}
 use Prim.Native.Nat.{ℕ, _+_, _<_, _≤_}
-use Rattle.log.specs.declared.Event.{Event}
+use Rattle.records.specs.declared.Event.{Event}
 use Rattle.log.specs.Limits.{maxWorkers, maxEvents, maxCheckpoints, maxRole}
-use Rattle.log.specs.Model.{Workers, workerCount, eventCount, roleOf, eventOf, checkpointCount, checkpointOf, isSend, isReceive}
-use Rattle.accept.specs.Records.{sendOf}
+use Rattle.log.specs.Model.{Workers, workerCount, eventCount, roleOf, eventOf, checkpointCount, checkpointOf}
+use Rattle.records.specs.Event.{isSend, isReceive}
+use Rattle.record_tests.specs.Records.{sendOf}
 
 -- a receive e of worker w names a send to w by another worker, with a smaller stamp
 pub record Sent (log : Workers) (w : ℕ) (e : Event) : Type 0 where

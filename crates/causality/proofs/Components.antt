@@ -9,7 +9,8 @@ use borrow.Author.Tests.{eq-eqb, ne-eqb, eqb-true}
 use lib.Dec.{eqb}
 use Rattle.ranges.specs.Fold.{maxBelow}
 use Rattle.ranges.proofs.Max.{max-each, max-some}
-use Rattle.log.specs.Model.{Workers, eventCount, eventOf, isReceive}
+use Rattle.log.specs.Model.{Workers, eventCount, eventOf}
+use Rattle.records.specs.Event.{isReceive}
 use Rattle.accept.specs.WellFormed.{WellFormed}
 use Rattle.causality.specs.Happened.{HappenedBefore, message}
 use Rattle.causality.specs.Cut.{namedOf, component}

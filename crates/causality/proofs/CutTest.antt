@@ -13,7 +13,8 @@ use Rattle.ranges.specs.Fold.{anyBelow}
 use Rattle.ranges.proofs.Any.{any-each, any-every, any-same}
 use Rattle.ranges.proofs.Bools.{and-true-left, and-true-right}
 use Rattle.ranges.proofs.Order.{lt-or-le}
-use Rattle.log.specs.Model.{Workers, workerCount, eventOf, isReceive}
+use Rattle.log.specs.Model.{Workers, workerCount, eventOf}
+use Rattle.records.specs.Event.{isReceive}
 use Rattle.accept.specs.WellFormed.{WellFormed}
 use Rattle.lent.specs.Lent.{at}
 use Rattle.causality.specs.Cut.{IsCut, Consistent, lacks, workerLacks, isConsistent}

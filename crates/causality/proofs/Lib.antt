@@ -1,6 +1,5 @@
 pub mod Order
 pub mod Components
 pub mod CutTest
-pub mod Allowed
 pub mod Row
 pub mod Peers

@@ -8,12 +8,13 @@ use Prim.Native.Nat.{ℕ, _+_, _-_, _<_, _≤_}
 use native.Mathlib.Nat.{eq-or-lt-of-le}
 use native.Mathlib.Omega.{arith}
 use Rattle.ranges.proofs.Order.{lt-or-le}
-use Rattle.log.specs.Model.{Workers, eventCount, eventOf, isReceive}
-use Rattle.accept.specs.Records.{sendOf}
+use Rattle.log.specs.Model.{Workers, eventCount, eventOf, IsEvent}
+use Rattle.records.specs.Event.{isReceive}
+use Rattle.record_tests.specs.Records.{sendOf}
 use Rattle.accept.proofs.Accepted.{receive-within}
 use Rattle.accept.proofs.Stamps.{stamps-rise}
 use Rattle.accept.specs.WellFormed.{WellFormed}
-use Rattle.causality.specs.Happened.{IsEvent, HappenedBefore, earlier, message, through}
+use Rattle.causality.specs.Happened.{HappenedBefore, earlier, message, through}
 use Rattle.lent.specs.Lent.{at}
 use Rattle.causality.specs.Cut.{Consistent}
 

@@ -11,9 +11,10 @@ use borrow.Author.Tests.{le-ltb}
 use lib.Dec.{ltb}
 use lib.ListN.{set}
 use lib.Seq.{set-getD}
-use Rattle.log.specs.declared.Event.{Event}
+use Rattle.records.specs.declared.Event.{Event}
 use Rattle.log.specs.Layout.{workersOf}
-use Rattle.log.specs.Model.{workerCount, eventCount, eventOf, isReceive}
+use Rattle.log.specs.Model.{workerCount, eventCount, eventOf}
+use Rattle.records.specs.Event.{isReceive}
 use Rattle.accept.specs.Refusal.{logRefusal}
 use Rattle.accept.proofs.Accepted.{well-formed}
 use Rattle.lent.specs.Lent.{at}

@@ -13,8 +13,9 @@ use Rattle.ranges.specs.Fold.{maxBelow}
 use Rattle.ranges.proofs.Max.{max-more, max-each, max-least, max-same}
 use Rattle.ranges.proofs.Order.{lt-or-le, eq-or-ne}
 use Rattle.ranges.proofs.Tabulate.{length-tabulate, getD-tabulate, tabulate-list}
-use Rattle.log.specs.declared.Event.{Event}
-use Rattle.log.specs.Model.{Workers, workerCount, eventOf, isReceive}
+use Rattle.records.specs.declared.Event.{Event}
+use Rattle.log.specs.Model.{Workers, workerCount, eventOf}
+use Rattle.records.specs.Event.{isReceive}
 use Rattle.lent.specs.Lent.{at}
 use Rattle.causality.specs.Cut.{namedOf, component, vector, lacks}
 use Rattle.causality.specs.Inner.Row.{namedAfter, largestAfter, namedRow, noted}

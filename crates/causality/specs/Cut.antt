@@ -8,7 +8,8 @@ use lib.Dec.{eqb, ltb}
 use lib.ListN.{length}
 use Rattle.ranges.specs.Fold.{anyBelow, maxBelow, sumBelow, tabulate}
 use Rattle.lent.specs.Lent.{at}
-use Rattle.log.specs.Model.{Workers, workerCount, eventCount, eventOf, isReceive, received}
+use Rattle.log.specs.Model.{Workers, workerCount, eventCount, eventOf}
+use Rattle.records.specs.Event.{isReceive, received}
 
 -- what event k + 1 of worker i names of worker v: its peer event where it is a receive from v, else 0
 unfoldable pub namedOf : Workers → ℕ → ℕ → ℕ → ℕ

@@ -3,11 +3,8 @@
 use mathlib.Core.Path.{_≡_}
 use mathlib.Core.Bool.{true}
 use Prim.Native.Nat.{ℕ, _<_, _≤_}
-use Rattle.log.specs.Model.{Workers, eventCount, eventOf, isReceive}
-
--- event x of worker w is an event of the log
-abbrev pub IsEvent : Workers → ℕ → ℕ → Type 0
-IsEvent log w x = (0 < x) × (x ≤ eventCount log w)
+use Rattle.log.specs.Model.{Workers, eventCount, eventOf}
+use Rattle.records.specs.Event.{isReceive}
 
 -- "Event a happened before event b: same worker and smaller index; or a is the send that receive b names; or through a third event"
 pub data HappenedBefore (log : Workers) : ℕ → ℕ → ℕ → ℕ → Type 0 where

@@ -1,5 +1,4 @@
 pub mod Happened
 pub mod Cut
-pub mod Refusals
 pub mod Calls
 pub mod Inner

@@ -1,6 +1,4 @@
-// Dependency vectors and the cut test of a log, and the refusals that calls share.
-
-pub mod refusals;
+// Dependency vectors and the cut test of a log.
 
 ghost use mathlib.Core.Path.{_≡_};
 ghost use mathlib.Core.Bool.{false};
@@ -12,7 +10,7 @@ ghost use Rattle.log.specs.Layout.{workersOf};
 ghost use Rattle.log.specs.Model.{workerCount, eventCount, eventOf};
 ghost use Rattle.accept.specs.Refusal.{logRefusal, given};
 ghost use Rattle.causality.specs.Cut.{vector, lacks, workerLacks, isConsistent};
-ghost use Rattle.causality.specs.Refusals.{overCount, lineRefusal, testRefusal};
+ghost use Rattle.refusals.specs.Refusals.{overCount, lineRefusal, testRefusal};
 ghost use Rattle.causality.specs.Calls.{yesUnless};
 ghost use Rattle.causality.specs.Inner.Row.{noted, namedRow};
 

@@ -8,8 +8,9 @@ use borrow.Author.Tests.{le-leb, leb-true, not-true}
 use lib.Dec.{leb}
 use lib.ListN.{getD}
 use Rattle.ranges.proofs.Bools.{and-true-left, and-true-right}
-use Rattle.log.specs.declared.Checkpoint.{Checkpoint}
-use Rattle.log.specs.Model.{Workers, workerCount, checkpointCount, checkpointOf, initial}
+use Rattle.records.specs.declared.Checkpoint.{Checkpoint}
+use Rattle.log.specs.Model.{Workers, workerCount, checkpointCount, checkpointOf}
+use Rattle.records.specs.Checkpoint.{initial}
 use Rattle.log.proofs.Read.{checkpoint-initial}
 use Rattle.choice.specs.Choice.{mayChoose, IsChoice}
 

@@ -16,9 +16,11 @@ use Rattle.ranges.proofs.Order.{lt-or-le}
 use Rattle.ranges.proofs.Any.{any-each, any-every, any-same}
 use Rattle.ranges.proofs.Bools.{and-true-left, and-true-right, never-true}
 use Rattle.ranges.proofs.Tabulate.{length-tabulate, getD-tabulate, getD-tabulate-past, getD-replicate-all}
-use Rattle.log.specs.declared.Event.{Event}
-use Rattle.log.specs.declared.Checkpoint.{Checkpoint}
-use Rattle.log.specs.Model.{Workers, workerCount, eventOf, initial, isUnlogged, isReceive}
+use Rattle.records.specs.declared.Event.{Event}
+use Rattle.records.specs.declared.Checkpoint.{Checkpoint}
+use Rattle.log.specs.Model.{Workers, workerCount, eventOf}
+use Rattle.records.specs.Checkpoint.{initial}
+use Rattle.records.specs.Event.{isUnlogged, isReceive}
 use Rattle.log.proofs.Read.{checkpoint-initial, worker-within}
 use Rattle.accept.specs.WellFormed.{WellFormed}
 use Rattle.lent.specs.Lent.{at}

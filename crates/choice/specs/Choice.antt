@@ -7,9 +7,11 @@ use Prim.Native.Nat.{ℕ, _+_, _<_, _≤_}
 use lib.Dec.{leb}
 use lib.ListN.{length, getD}
 use Rattle.ranges.specs.Fold.{anyBelow}
-use Rattle.log.specs.declared.Event.{Event}
-use Rattle.log.specs.declared.Checkpoint.{Checkpoint}
-use Rattle.log.specs.Model.{Workers, workerCount, eventOf, checkpointCount, checkpointOf, initial, isUnlogged}
+use Rattle.records.specs.declared.Event.{Event}
+use Rattle.records.specs.declared.Checkpoint.{Checkpoint}
+use Rattle.log.specs.Model.{Workers, workerCount, eventOf, checkpointCount, checkpointOf}
+use Rattle.records.specs.Checkpoint.{initial}
+use Rattle.records.specs.Event.{isUnlogged}
 use Rattle.lent.specs.Lent.{at}
 use Rattle.causality.specs.Cut.{Within}
 

@@ -1,6 +1,6 @@
 // The checkpoints that may be chosen, and the sends that a start loses.
 
-use log::Event;
+use records::Event;
 ghost use mathlib.Core.Path.{_≡_};
 ghost use Prim.Native.Nat.{_≤_};
 ghost use Rattle.log.specs.Layout.{workersOf};
@@ -25,7 +25,7 @@ fn above_starts(e: Event) -> u64
     ensures answer { λ r. ⌜ r ≡ aboveStarts e ⌝ }
     ensures few { λ r. ⌜ r ≤ 4294967296 ⌝ }
 {
-    if log::is_unlogged(e) {
+    if records::is_unlogged(e) {
         return 0;
     }
     4294967296

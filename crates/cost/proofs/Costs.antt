@@ -11,9 +11,9 @@ use borrow.Author.Tests.{leb-true, le-leb}
 use lib.Dec.{leb}
 use Rattle.ranges.proofs.Sum.{sum-bound, sum-le, sum-same}
 use Rattle.log.specs.Limits.{maxWorkers, maxEvents}
-use Rattle.log.specs.declared.Kind.{Kind}
-use Rattle.log.specs.declared.Kind.the-variants.{Send, Unlogged, Logged, Rest}
-use Rattle.log.specs.Kind.{column}
+use Rattle.records.specs.declared.Kind.{Kind}
+use Rattle.records.specs.declared.Kind.the-variants.{Send, Unlogged, Logged, Rest}
+use Rattle.records.specs.Kind.{column}
 use Rattle.log.specs.Model.{Workers, workerCount, roleOf, eventCount, eventOf}
 use Rattle.accept.specs.WellFormed.{WellFormed}
 use Rattle.accept.proofs.Accepted.{known-kind}

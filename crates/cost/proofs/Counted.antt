@@ -9,9 +9,9 @@ use native.Mathlib.Omega.{arith}
 use borrow.Author.Tests.{le-leb, lt-leb}
 use Rattle.ranges.specs.Fold.{sumBelow}
 use Rattle.ranges.proofs.Sum.{sum-more, sum-bound}
-use Rattle.log.specs.declared.Kind.{Kind}
-use Rattle.log.specs.declared.Kind.the-variants.{Send, Unlogged, Logged, Rest}
-use Rattle.log.specs.declared.Event.{Event}
+use Rattle.records.specs.declared.Kind.{Kind}
+use Rattle.records.specs.declared.Kind.the-variants.{Send, Unlogged, Logged, Rest}
+use Rattle.records.specs.declared.Event.{Event}
 use Rattle.log.specs.Model.{Workers, eventCount, roleOf, eventOf}
 use Rattle.log.specs.Limits.{maxEvents}
 use Rattle.accept.specs.WellFormed.{WellFormed}

@@ -1,6 +1,6 @@
 // The words of a plan, cut, start and identifier for each worker, and its replayed events and their units.
 
-use log::Kind;
+use records::Kind;
 ghost use mathlib.Core.Path.{_≡_};
 ghost use Prim.Native.Nat.{_+_, _*_, _<_, _≤_};
 ghost use lib.ListN.{length};

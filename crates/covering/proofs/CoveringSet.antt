@@ -16,11 +16,13 @@ use Rattle.ranges.proofs.Any.{any-each, any-every, any-found, any-some}
 use Rattle.ranges.proofs.Bools.{and-true-left, and-true-right, or-true-cases}
 use Rattle.ranges.proofs.First.{last, last-zero}
 use Rattle.ranges.proofs.Tabulate.{length-tabulate, getD-tabulate, getD-tabulate-past, getD-replicate-all, tabulate-list}
-use Rattle.log.specs.declared.Event.{Event}
-use Rattle.log.specs.declared.Checkpoint.{Checkpoint}
-use Rattle.log.specs.Model.{Workers, workerCount, eventCount, eventOf, checkpointCount, checkpointOf, initial, isReceive, isLogged, isUnlogged}
+use Rattle.records.specs.declared.Event.{Event}
+use Rattle.records.specs.declared.Checkpoint.{Checkpoint}
+use Rattle.log.specs.Model.{Workers, workerCount, eventCount, eventOf, checkpointCount, checkpointOf}
+use Rattle.records.specs.Checkpoint.{initial}
+use Rattle.records.specs.Event.{isReceive, isLogged, isUnlogged}
 use Rattle.log.proofs.Read.{worker-within, checkpoint-initial, count-past}
-use Rattle.log.proofs.EventKinds.{not-logged}
+use Rattle.records.proofs.EventKinds.{not-logged}
 use Rattle.accept.specs.WellFormed.{WellFormed}
 use Rattle.lent.specs.Lent.{at}
 use Rattle.causality.specs.Cut.{IsCut}

@@ -8,8 +8,8 @@ use native.Mathlib.Omega.{arith}
 use borrow.Author.Tests.{leb-true}
 use lib.Dec.{leb}
 use Rattle.ranges.proofs.Bools.{and-true-left, and-true-right, never-true}
-use Rattle.log.specs.Forms.{marksWithdrawn}
-use Rattle.log.specs.Mark.{topBit, hasMark}
+use Rattle.records.specs.Forms.{marksWithdrawn}
+use Rattle.records.specs.Mark.{topBit, hasMark}
 use Rattle.log.specs.Model.{Workers}
 use Rattle.log.specs.Layout.{formField, workersOf, logOf}
 use Rattle.log.proofs.Read.{identifier-below}

@@ -8,8 +8,10 @@ use Prim.Native.Nat.{ℕ, _+_, _<_, _≤_}
 use lib.Dec.{eqb}
 use lib.ListN.{getD}
 use Rattle.ranges.specs.Fold.{anyBelow, lastBelow, tabulate}
-use Rattle.log.specs.declared.Checkpoint.{Checkpoint}
-use Rattle.log.specs.Model.{Workers, workerCount, eventCount, eventOf, checkpointCount, checkpointOf, initial, isReceive, isLogged}
+use Rattle.records.specs.declared.Checkpoint.{Checkpoint}
+use Rattle.log.specs.Model.{Workers, workerCount, eventCount, eventOf, checkpointCount, checkpointOf}
+use Rattle.records.specs.Checkpoint.{initial}
+use Rattle.records.specs.Event.{isReceive, isLogged}
 use Rattle.choice.specs.Choice.{mayChoose, IsChoice, startsOf, Startable, isStartable}
 
 -- checkpoint c of worker w has identifier t; "For t = 0 the initial states are meant": checkpoint 0 alone has identifier 0

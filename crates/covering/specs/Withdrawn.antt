@@ -3,7 +3,7 @@
 use mathlib.Core.Path.{_≡_}
 use mathlib.Core.Bool.{true, false}
 use Prim.Native.Nat.{ℕ, _<_, _≤_}
-use Rattle.log.specs.Mark.{hasMark}
+use Rattle.records.specs.Mark.{hasMark}
 use Rattle.log.specs.Model.{Log, Workers, workerCount, checkpointCount, checkpointOf}
 
 -- no worker's checkpoint with identifier t is withdrawn

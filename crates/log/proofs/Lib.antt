@@ -1,4 +1,2 @@
-pub mod Marked
 pub mod Readable
 pub mod Read
-pub mod EventKinds

@@ -10,15 +10,17 @@ use native.Mathlib.Omega.{arith}
 use borrow.Author.Tests.{le-leb, lt-leb}
 use lib.ListN.{length, drop, length-take, length-drop, List·getD-eq-default}
 use Rattle.ranges.proofs.Tabulate.{length-tabulate, getD-tabulate}
-use Rattle.log.specs.Model.{Workers, Worker, noEvent, noWorker, initial, workerCount, worker, roleOf, eventCount, eventOf, checkpointCount, checkpointOf}
-use Rattle.log.specs.Forms.{marksWithdrawn}
-use Rattle.log.specs.Mark.{topBit}
+use Rattle.log.specs.Model.{Workers, Worker, noWorker, workerCount, worker, roleOf, eventCount, eventOf, checkpointCount, checkpointOf}
+use Rattle.records.specs.Event.{noEvent, eventSize, eventRecord}
+use Rattle.records.specs.Checkpoint.{initial, checkpointSize, checkpointRecord}
+use Rattle.records.specs.Forms.{marksWithdrawn}
+use Rattle.records.specs.Mark.{topBit}
 use Rattle.log.specs.Limits.{maxWorkers, maxEvents, maxCheckpoints, maxRole}
 use Rattle.log.specs.Header.{layoutRefusal}
-use Rattle.log.proofs.Marked.{identifier-low}
+use Rattle.records.proofs.Marked.{identifier-low}
 use Rattle.log.proofs.Readable.{Entry, readable}
 use Rattle.log.specs.Layout.{formField, sizeField, headerOf, field, entryOrZero, eventCountField, eventOffsetField, checkpointCountField, checkpointOffsetField, roleField}
-use Rattle.log.specs.Layout.{eventSize, checkpointSize, section, eventStart, eventSection, checkpointSection, eventRecord, checkpointRecord, workerOf, workersOf}
+use Rattle.log.specs.Layout.{section, eventStart, eventSection, checkpointSection, workerOf, workersOf}
 
 -- ---- every log
 module _ (log : Workers) where

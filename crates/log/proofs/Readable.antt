@@ -12,8 +12,10 @@ use Rattle.ranges.proofs.Any.{any-each, any-every}
 use Rattle.lent.proofs.Lent.{peel}
 use Rattle.ranges.proofs.Bools.{or-false-left, or-false-right}
 use Rattle.log.specs.Limits.{minLength, maxLength, maxWorkers, maxEvents, maxCheckpoints, maxRole}
-use Rattle.log.specs.Forms.{isForm}
-use Rattle.log.specs.Layout.{formField, sizeField, lengthField, headerOf, field, eventCountField, eventOffsetField, checkpointCountField, checkpointOffsetField, roleField, eventSize, checkpointSize}
+use Rattle.records.specs.Forms.{isForm}
+use Rattle.log.specs.Layout.{formField, sizeField, lengthField, headerOf, field, eventCountField, eventOffsetField, checkpointCountField, checkpointOffsetField, roleField}
+use Rattle.records.specs.Event.{eventSize}
+use Rattle.records.specs.Checkpoint.{checkpointSize}
 use Rattle.log.specs.Header.{lengthFault, formFault, sizeFault, headerFault, limitFault, outside, sectionFault, entryFault, someEntry, entriesRefusal, layoutRefusal}
 
 -- the header's entry of a worker is within the limits, and its sections are within the log

@@ -6,10 +6,11 @@ use Prim.Native.Nat.{ℕ, _+_, _*_}
 use lib.Dec.{eqb, ltb}
 use lib.ListN.{length}
 use Rattle.ranges.specs.Fold.{anyBelow}
-use Rattle.log.specs.Forms.{isForm}
+use Rattle.records.specs.Forms.{isForm}
 use Rattle.log.specs.Limits.{minLength, maxLength, maxWorkers, maxEvents, maxCheckpoints, maxRole}
-use Rattle.log.specs.Layout.{formField, sizeField, lengthField, headerOf, field, eventSize, checkpointSize}
-use Rattle.log.specs.Layout.{eventCountField, eventOffsetField, checkpointCountField, checkpointOffsetField, roleField}
+use Rattle.log.specs.Layout.{formField, sizeField, lengthField, headerOf, field, eventCountField, eventOffsetField, checkpointCountField, checkpointOffsetField, roleField}
+use Rattle.records.specs.Event.{eventSize}
+use Rattle.records.specs.Checkpoint.{checkpointSize}
 
 -- 1: "log under 8 or over 4,194,304 bytes"
 unfoldable pub lengthFault : List ℕ → Bool

@@ -1,4 +1,5 @@
--- The layout of a log in bytes, and the log that it holds. No other definition knows a byte or an offset, but for the tests 1 to 6.
+-- The layout of a log in bytes, and the log that it holds. No other definition knows a byte or an offset, but for the records and the
+-- tests 1 to 6.
 -- Assumes nothing.
 use mathlib.Core.Bool.{cond}
 use mathlib.Core.List.{List}
@@ -7,10 +8,8 @@ use lib.Dec.{leb}
 use lib.ListN.{take, drop}
 use Rattle.ranges.specs.Fold.{tabulate}
 use Rattle.bytes_le.specs.Little.{le}
-use Rattle.log.specs.declared.Event.{Event}
-use Rattle.log.specs.declared.Checkpoint.{Checkpoint}
-use Rattle.log.specs.Kind.{kindOf}
-use Rattle.log.specs.Mark.{hasMark, withoutMark}
+use Rattle.records.specs.Event.{eventSize, eventRecord}
+use Rattle.records.specs.Checkpoint.{checkpointSize, checkpointRecord}
 use Rattle.log.specs.Model.{Log, Workers, Worker}
 
 -- "Bytes 0-1: form. Bytes 2-3: worker count n. Bytes 4-7: length of the log in bytes"
@@ -51,13 +50,6 @@ checkpointOffsetField = 3
 abbrev pub roleField : ℕ
 roleField = 4
 
--- "An event record is 12 bytes", "A checkpoint record is 8 bytes"
-abbrev pub eventSize : ℕ
-eventSize = 12
-
-abbrev pub checkpointSize : ℕ
-checkpointSize = 8
-
 -- "Each worker's section is handed on as the part of the log that starts at its offset"
 unfoldable pub section : List ℕ → ℕ → ℕ → List ℕ
 section s start bytes = take bytes (drop start s)
@@ -71,34 +63,6 @@ eventSection s w = section s (field s w eventOffsetField) (eventSize * field s w
 
 unfoldable pub checkpointSection : List ℕ → ℕ → List ℕ
 checkpointSection s w = section s (field s w checkpointOffsetField) (checkpointSize * field s w checkpointCountField)
-
--- "kind (1 byte)", of record k, from 0, of a section
-abbrev pub kindByte : List ℕ → ℕ → ℕ
-kindByte part k = le 1 part (eventSize * k)
-
--- "kind (1 byte), peer (1 byte), spare (2 bytes, zero), peer event (4 bytes), stamp (4 bytes)": record k, from 0, of a section
-unfoldable pub eventRecord : List ℕ → ℕ → Event
-eventRecord part k =
-    record {
-      kind = kindOf (kindByte part k);
-      peer = le 1 part (eventSize * k + 1);
-      spare = le 2 part (eventSize * k + 2);
-      send = le 4 part (eventSize * k + 4);
-      stamp = le 4 part (eventSize * k + 8);
-    }
-
--- the identifier word of record k, from 0, of a section
-abbrev pub identifierWord : List ℕ → ℕ → ℕ
-identifierWord part k = le 4 part (checkpointSize * k + 4)
-
--- "event index (4), checkpoint identifier (4)": record k, from 0, of a section, in a log of this form
-unfoldable pub checkpointRecord : ℕ → List ℕ → ℕ → Checkpoint
-checkpointRecord form part k =
-    record {
-      index = le 4 part (checkpointSize * k);
-      identifier = withoutMark form (identifierWord part k);
-      withdrawn = hasMark form (identifierWord part k);
-    }
 
 unfoldable pub workerOf : List ℕ → ℕ → Worker
 workerOf s w =

@@ -1,20 +1,17 @@
-// A house log in bytes: its header, its sections and its records, and the readers that the other crates use.
+// A house log in bytes: its header and its sections, and the readers that the other crates use.
 
+use records::Checkpoint;
+use records::Event;
 ghost use mathlib.Core.Path.{_≡_};
 ghost use Prim.Native.Nat.{_+_, _*_, _<_, _≤_};
-ghost use lib.ListN.{length, getD};
-ghost use Rattle.log.specs.Forms.{marksWithdrawn, receivesOnce};
+ghost use lib.ListN.{length};
+ghost use Rattle.records.specs.Forms.{receivesOnce};
 ghost use Rattle.log.specs.Limits.{maxWorkers, maxEvents, maxCheckpoints, maxRole};
-ghost use Rattle.log.specs.Kind.{column, recordTable};
-ghost use Rattle.log.specs.Mark.{hasMark, withoutMark};
-ghost use Rattle.log.specs.Model.{noEvent, initial, workerCount, eventCount, eventOf, checkpointCount, checkpointOf, roleOf, isSend, isUnlogged, isReceive, received, unloggedSend};
-ghost use Rattle.log.specs.Layout.{formField, sizeField, lengthField, headerOf, field, entryOrZero, section, eventStart, eventSection, checkpointSection, kindByte, eventRecord, checkpointRecord, workersOf};
+ghost use Rattle.records.specs.Event.{eventRecord};
+ghost use Rattle.records.specs.Checkpoint.{initial, checkpointRecord};
+ghost use Rattle.log.specs.Model.{workerCount, eventCount, eventOf, checkpointCount, checkpointOf, roleOf};
+ghost use Rattle.log.specs.Layout.{formField, sizeField, lengthField, headerOf, field, entryOrZero, section, eventStart, eventSection, checkpointSection, workersOf};
 ghost use Rattle.log.specs.Header.{formFault, limitFault, outside, sectionFault, entryFault, someEntry, entriesRefusal, layoutRefusal};
-
-// The forms of a log. In the second one a send is received at most once, and a checkpoint may be marked as withdrawn.
-const FIRST_FORM: u32 = 1;
-
-const SECOND_FORM: u32 = 2;
 
 // The limits of a log.
 const MIN_LENGTH: usize = 8;
@@ -39,39 +36,6 @@ const CHECKPOINT_COUNT_FIELD: usize = 2;
 const CHECKPOINT_OFFSET_FIELD: usize = 3;
 
 const ROLE_FIELD: usize = 4;
-
-// The bytes of a record.
-const EVENT_SIZE: usize = 12;
-
-const CHECKPOINT_SIZE: usize = 8;
-
-// The top bit of an identifier word, the mark of a withdrawn checkpoint.
-const MARK: u32 = 2147483648;
-
-// The kind of an event: a case for each kind of the record table, a send, a receive without its data logged and one with it, and one for
-// all the rest.
-pub enum Kind {
-    Send,
-    Unlogged,
-    Logged,
-    Rest,
-}
-
-// An event: `send` is the index of the send that a receive names, and 0 for a send.
-pub struct Event {
-    pub kind: Kind,
-    pub peer: u8,
-    pub spare: u32,
-    pub send: u32,
-    pub stamp: u32,
-}
-
-// The state of a worker after `index` events. A withdrawn one has its record alone.
-pub struct Checkpoint {
-    pub index: u32,
-    pub identifier: u32,
-    pub withdrawn: bool,
-}
 
 // The form, the worker count and the length that the header gives.
 pub fn form_field(log: &[u8]) -> u32
@@ -140,11 +104,11 @@ fn section_fault(log: &[u8], w: usize) -> bool
     requires { ⌜ headerOf (w + 1) ≤ length (now log) ⌝ }
     ensures answer { λ r. ⌜ r ≡ sectionFault (now (log .entry)) w ⌝ }
 {
-    let events = EVENT_SIZE * (entry(log, w, EVENT_COUNT_FIELD) as usize);
+    let events = records::EVENT_SIZE * (entry(log, w, EVENT_COUNT_FIELD) as usize);
     if is_outside(log, entry(log, w, EVENT_OFFSET_FIELD), events) {
         return true;
     }
-    let checkpoints = CHECKPOINT_SIZE * (entry(log, w, CHECKPOINT_COUNT_FIELD) as usize);
+    let checkpoints = records::CHECKPOINT_SIZE * (entry(log, w, CHECKPOINT_COUNT_FIELD) as usize);
     is_outside(log, entry(log, w, CHECKPOINT_OFFSET_FIELD), checkpoints)
 }
 
@@ -194,11 +158,7 @@ fn form_fault(log: &[u8]) -> bool
     requires { ⌜ 8 ≤ length (now log) ⌝ }
     ensures answer { λ r. ⌜ r ≡ formFault (now (log .entry)) ⌝ }
 {
-    let form = form_field(log);
-    if form == FIRST_FORM {
-        return false;
-    }
-    form != SECOND_FORM
+    !records::is_form(form_field(log))
 }
 
 // Tests 1 to 6: the number of the first that fails, or 0.
@@ -228,70 +188,6 @@ pub fn layout_refusal(log: &[u8]) -> u32
         return 4;
     }
     entries_refusal(log)
-}
-
-// Record k, from 0, of a section of events.
-fn event_record(part: &[u8], k: usize) -> Event
-    requires { ⌜ 12 * k + 12 ≤ length (now part) ⌝ }
-    ensures answer { λ r. ⌜ r ≡ eventRecord (now (part .entry)) k ⌝ }
-    ensures kind { λ r. ⌜ r .kind ≡ getD recordTable (kindByte (now (part .entry)) k) Kind.Rest ⌝ }
-{
-    let at = EVENT_SIZE * k;
-    let byte = bytes_le::read1(part, at);
-    let kind = match byte {
-        1 => Kind::Send,
-        2 => Kind::Unlogged,
-        3 => Kind::Logged,
-        _ => Kind::Rest,
-    };
-    Event {
-        kind,
-        peer: bytes_le::read1(part, at + 1),
-        spare: bytes_le::read2(part, at + 2),
-        send: bytes_le::read4(part, at + 4),
-        stamp: bytes_le::read4(part, at + 8),
-    }
-}
-
-// Whether the identifier words of a log of this form have a mark.
-fn marks_withdrawn(form: u32) -> bool
-    ensures answer { λ r. ⌜ r ≡ marksWithdrawn form ⌝ }
-{
-    form == SECOND_FORM
-}
-
-// Whether an identifier word of a log of this form has the mark.
-fn has_mark(form: u32, word: u32) -> bool
-    ensures answer { λ r. ⌜ r ≡ hasMark form word ⌝ }
-{
-    if marks_withdrawn(form) {
-        return MARK <= word;
-    }
-    false
-}
-
-// The identifier that such a word has.
-fn without_mark(form: u32, word: u32) -> u32
-    ensures answer { λ r. ⌜ r ≡ withoutMark form word ⌝ }
-{
-    if marks_withdrawn(form) {
-        return word % MARK;
-    }
-    word
-}
-
-// Record k, from 0, of a section of checkpoints of a log of this form.
-fn checkpoint_record(form: u32, part: &[u8], k: usize) -> Checkpoint
-    requires { ⌜ 8 * k + 8 ≤ length (now part) ⌝ }
-    ensures answer { λ r. ⌜ r ≡ checkpointRecord form (now (part .entry)) k ⌝ }
-{
-    let at = CHECKPOINT_SIZE * k;
-    let word = bytes_le::read4(part, at + 4);
-    Checkpoint {
-        index: bytes_le::read4(part, at),
-        identifier: without_mark(form, word),
-        withdrawn: has_mark(form, word),
-    }
 }
 
 // A section of the log: the log, where the section starts, and how many records it has. It copies nothing.
@@ -336,16 +232,16 @@ pub fn event_in(log: &[u8], start: usize, count: usize, k: usize) -> Event
     requires { ⌜ (start + 12 * count ≤ length (now log)) × (k < count) ⌝ }
     ensures answer { λ r. ⌜ r ≡ eventRecord (section (now (log .entry)) start (12 * count)) k ⌝ }
 {
-    event_record(section_part(log, start, count, EVENT_SIZE), k)
+    records::event_record(section_part(log, start, count, records::EVENT_SIZE), k)
 }
 
 fn checkpoint_in(log: &[u8], start: usize, count: usize, k: usize) -> Checkpoint
     requires { ⌜ (8 ≤ length (now log)) × (start + 8 * count ≤ length (now log)) × (k < count) ⌝ }
     ensures answer { λ r. ⌜ r ≡ checkpointRecord (formField (now (log .entry))) (section (now (log .entry)) start (8 * count)) k ⌝ }
 {
-    checkpoint_record(
+    records::checkpoint_record(
         form_field(log),
-        section_part(log, start, count, CHECKPOINT_SIZE),
+        section_part(log, start, count, records::CHECKPOINT_SIZE),
         k,
     )
 }
@@ -355,7 +251,7 @@ pub fn receives_once(log: &[u8]) -> bool
     requires { ⌜ layoutRefusal (now log) ≡ 0 ⌝ }
     ensures answer { λ r. ⌜ r ≡ receivesOnce (formField (now (log .entry))) ⌝ }
 {
-    form_field(log) == SECOND_FORM
+    records::receives_once(form_field(log))
 }
 
 // The number of workers.
@@ -428,26 +324,14 @@ pub fn events_part(log: &[u8], w: usize) -> &[u8]
     requires { ⌜ (layoutRefusal (now log) ≡ 0) × (w < workerCount (workersOf (now log))) ⌝ }
     ensures answer { λ r. ⌜ now r ≡ eventSection (now (log .entry)) w ⌝ }
 {
-    records_part(log, w, EVENT_COUNT_FIELD, EVENT_SIZE)
+    records_part(log, w, EVENT_COUNT_FIELD, records::EVENT_SIZE)
 }
 
 pub fn checkpoints_part(log: &[u8], w: usize) -> &[u8]
     requires { ⌜ (layoutRefusal (now log) ≡ 0) × (w < workerCount (workersOf (now log))) ⌝ }
     ensures answer { λ r. ⌜ now r ≡ checkpointSection (now (log .entry)) w ⌝ }
 {
-    records_part(log, w, CHECKPOINT_COUNT_FIELD, CHECKPOINT_SIZE)
-}
-
-fn no_event() -> Event
-    ensures answer { λ r. ⌜ r ≡ noEvent ⌝ }
-{
-    Event {
-        kind: Kind::Rest,
-        peer: 0,
-        spare: 0,
-        send: 0,
-        stamp: 0,
-    }
+    records_part(log, w, CHECKPOINT_COUNT_FIELD, records::CHECKPOINT_SIZE)
 }
 
 // Event x of worker w, which is one of the log's, and no event outside 1 .. its count.
@@ -457,10 +341,10 @@ pub fn worker_event(log: &[u8], w: usize, x: u32) -> Event
 {
     let count = entry(log, w, EVENT_COUNT_FIELD);
     if x == 0 {
-        return no_event();
+        return records::no_event();
     }
     if count < x {
-        return no_event();
+        return records::no_event();
     }
     let start = entry(log, w, EVENT_OFFSET_FIELD);
     event_in(log, start as usize, count as usize, (x - 1) as usize)
@@ -472,20 +356,9 @@ pub fn event_at(log: &[u8], w: usize, x: u32) -> Event
     ensures answer { λ r. ⌜ r ≡ eventOf (workersOf (now (log .entry))) w x ⌝ }
 {
     if worker_count(log) <= w {
-        return no_event();
+        return records::no_event();
     }
     worker_event(log, w, x)
-}
-
-// The initial state.
-fn initial() -> Checkpoint
-    ensures answer { λ r. ⌜ r ≡ initial ⌝ }
-{
-    Checkpoint {
-        index: 0,
-        identifier: 0,
-        withdrawn: false,
-    }
 }
 
 // Checkpoint c of worker w: 0 is the initial state, which stands past the last recorded one too.
@@ -495,84 +368,11 @@ pub fn checkpoint_at(log: &[u8], w: usize, c: u32) -> Checkpoint
 {
     let count = checkpoint_count(log, w);
     if c == 0 {
-        return initial();
+        return records::initial();
     }
     if count < c {
-        return initial();
+        return records::initial();
     }
     let start = entry(log, w, CHECKPOINT_OFFSET_FIELD);
     checkpoint_in(log, start as usize, count as usize, (c - 1) as usize)
-}
-
-// Whether an event is a send, a receive without its data, a receive.
-pub fn is_send(e: Event) -> bool
-    ensures answer { λ r. ⌜ r ≡ isSend e ⌝ }
-{
-    let kind = e.kind;
-    match kind {
-        Kind::Send => true,
-        Kind::Unlogged => false,
-        Kind::Logged => false,
-        Kind::Rest => false,
-    }
-}
-
-pub fn is_unlogged(e: Event) -> bool
-    ensures answer { λ r. ⌜ r ≡ isUnlogged e ⌝ }
-{
-    let kind = e.kind;
-    match kind {
-        Kind::Send => false,
-        Kind::Unlogged => true,
-        Kind::Logged => false,
-        Kind::Rest => false,
-    }
-}
-
-pub fn is_receive(e: Event) -> bool
-    ensures answer { λ r. ⌜ r ≡ isReceive e ⌝ }
-{
-    let kind = e.kind;
-    match kind {
-        Kind::Send => false,
-        Kind::Unlogged => true,
-        Kind::Logged => true,
-        Kind::Rest => false,
-    }
-}
-
-// The messages that an event receives: 1 for a receive, else 0.
-pub fn received(e: Event) -> u32
-    ensures answer { λ r. ⌜ r ≡ received e ⌝ }
-    ensures few { λ r. ⌜ r ≤ 1 ⌝ }
-{
-    if is_receive(e) {
-        return 1;
-    }
-    0
-}
-
-// The column of the table of units for a kind. That of the rest is behind the last one.
-pub fn column(kind: Kind) -> u32
-    ensures answer { λ r. ⌜ r ≡ column kind ⌝ }
-{
-    match kind {
-        Kind::Send => 0,
-        Kind::Unlogged => 1,
-        Kind::Logged => 2,
-        Kind::Rest => 3,
-    }
-}
-
-// A number above every index.
-pub const NO_SEND: u32 = 4294967295;
-
-// The send that a receive without its data names, and `otherwise` for any other event: one comparison then serves every kind.
-pub fn unlogged_send(e: Event, otherwise: u32) -> u32
-    ensures answer { λ r. ⌜ r ≡ unloggedSend e otherwise ⌝ }
-{
-    if is_unlogged(e) {
-        return e.send;
-    }
-    otherwise
 }

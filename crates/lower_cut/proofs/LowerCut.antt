@@ -11,10 +11,10 @@ use Rattle.ranges.specs.Fold.{sweep}
 use Rattle.ranges.proofs.Tabulate.{getD-replicate-all}
 use Rattle.ranges.proofs.Store.{set-cases}
 use Rattle.ranges.proofs.Sweep.{sweep-keeps}
-use Rattle.log.specs.Model.{Workers, workerCount, eventOf}
+use Rattle.log.specs.Model.{Workers, workerCount, eventOf, IsEvent}
 use Rattle.log.proofs.Read.{worker-within}
 use Rattle.accept.specs.WellFormed.{WellFormed}
-use Rattle.causality.specs.Happened.{IsEvent, HappenedBefore, earlier, through}
+use Rattle.causality.specs.Happened.{HappenedBefore, earlier, through}
 use Rattle.lent.specs.Lent.{at}
 use Rattle.causality.specs.Cut.{component, IsCut, Consistent, IsLowerCut}
 use Rattle.lower_cut.specs.Figure2.{Found, counted, stored, turn, visit, visitAt, beginning, figure2, lowerCut}

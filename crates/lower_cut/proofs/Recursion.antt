@@ -16,7 +16,8 @@ use Rattle.ranges.proofs.Store.{set-grows}
 use Rattle.ranges.proofs.Sweep.{sweep-keeps, sweep-same}
 use Rattle.log.specs.Model.{Workers, workerCount, eventOf}
 use Rattle.accept.specs.WellFormed.{WellFormed}
-use Rattle.causality.specs.Happened.{IsEvent, HappenedBefore}
+use Rattle.log.specs.Model.{IsEvent}
+use Rattle.causality.specs.Happened.{HappenedBefore}
 use Rattle.lent.specs.Lent.{at}
 use Rattle.causality.specs.Cut.{Within, component}
 use Rattle.lower_cut.specs.Figure2.{Found, counted, stored, turnIf, turn, visit, visitAt}

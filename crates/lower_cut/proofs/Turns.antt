@@ -17,10 +17,9 @@ use Rattle.ranges.proofs.Max.{max-none, max-least}
 use Rattle.ranges.proofs.Order.{lt-or-le, eq-or-ne}
 use Rattle.ranges.proofs.Store.{set-cases, set-grows}
 use Rattle.ranges.proofs.Sweep.{sweep-none, sweep-more}
-use Rattle.log.specs.Model.{Workers, workerCount, eventCount, eventOf}
+use Rattle.log.specs.Model.{Workers, workerCount, eventCount, eventOf, IsEvent}
 use Rattle.log.proofs.Read.{worker-within}
 use Rattle.accept.specs.WellFormed.{WellFormed}
-use Rattle.causality.specs.Happened.{IsEvent}
 use Rattle.lent.specs.Lent.{at}
 use Rattle.causality.specs.Cut.{namedOf, component, lacks, IsCut}
 use Rattle.lower_cut.specs.Figure2.{Found, counted, stored, turn, visitAt, beginning, figure2}

@@ -14,10 +14,10 @@ use Rattle.ranges.specs.Fold.{sumBelow, sweep}
 use Rattle.ranges.proofs.Sum.{sum-bound, sum-le, sum-lt}
 use Rattle.ranges.proofs.Sweep.{sweep-keeps}
 use Rattle.log.specs.Limits.{maxWorkers, maxEvents}
-use Rattle.log.specs.Model.{Workers, workerCount, eventOf, isReceive, received}
+use Rattle.log.specs.Model.{Workers, workerCount, eventOf, IsEvent}
+use Rattle.records.specs.Event.{isReceive, received}
 use Rattle.log.proofs.Read.{worker-within}
 use Rattle.accept.specs.WellFormed.{WellFormed}
-use Rattle.causality.specs.Happened.{IsEvent}
 use Rattle.lent.specs.Lent.{at}
 use Rattle.causality.specs.Cut.{component, IsCut, Consistent, receiveAt, receivesOf, receivesWithin}
 use Rattle.lower_cut.specs.Figure2.{Found, counted, stored, turnIf, turn, visit, visitAt, beginning, figure2, lowerCut}

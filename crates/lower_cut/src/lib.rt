@@ -9,9 +9,9 @@ ghost use Rattle.lent.specs.Lent.{onto, unlessRefused, KeptIfRefused};
 ghost use Rattle.log.specs.Layout.{workersOf};
 ghost use Rattle.log.specs.Model.{workerCount};
 ghost use Rattle.accept.specs.Refusal.{logRefusal, given};
-ghost use Rattle.causality.specs.Happened.{IsEvent};
+ghost use Rattle.log.specs.Model.{IsEvent};
 ghost use Rattle.lower_cut.specs.Figure2.{figure2, lowerCut};
-ghost use Rattle.causality.specs.Refusals.{searchRefusal};
+ghost use Rattle.refusals.specs.Refusals.{searchRefusal};
 ghost use Rattle.lower_cut.specs.Workers.{bitOf, workersWord};
 ghost use Rattle.lower_cut.specs.Calls.{foundCut, cutAnswer, cutTotals};
 
@@ -89,7 +89,7 @@ pub fn lower_cut(
     ensures words { λ r. ⌜ now (words .exit) ≡ unlessRefused (r .refusal) (lowerCut (workersOf (now (log .entry))) worker event) (now (words .entry)) ⌝ }
     ensures kept { λ r. ⌜ KeptIfRefused (r .refusal) (now (scratch .entry)) (now (scratch .exit)) ⌝ }
 {
-    let refusal = causality::refusals::search_refusal(
+    let refusal = refusals::search_refusal(
         log,
         worker,
         event,

@@ -14,11 +14,13 @@ use Rattle.lent.proofs.Lent.{or-else-zero, or-else-second}
 use Rattle.lent.specs.Lent.{at}
 use Rattle.bytes_le.specs.Little.{Bytes}
 use Rattle.bytes_le.proofs.Little.{bytes-append}
-use Rattle.log.specs.Forms.{isForm, firstForm, secondForm}
+use Rattle.records.specs.Forms.{isForm, firstForm, secondForm}
 use Rattle.log.specs.Header.{layoutRefusal}
 use Rattle.log.specs.Model.{Log, Workers, workerCount, roleOf, eventCount, checkpointCount}
 use Rattle.log.specs.Layout.{formField, sizeField, headerOf, field, eventCountField, eventOffsetField, checkpointCountField, checkpointOffsetField, roleField}
-use Rattle.log.specs.Layout.{eventSize, checkpointSize, section, eventSection, checkpointSection, workerOf, workersOf, logOf}
+use Rattle.records.specs.Event.{eventSize}
+use Rattle.records.specs.Checkpoint.{checkpointSize}
+use Rattle.log.specs.Layout.{section, eventSection, checkpointSection, workerOf, workersOf, logOf}
 use Rattle.log.proofs.Readable.{Entry, Readable, readable, laid-out}
 use Rattle.log.proofs.Read.{size-read, workers-few, count-read, checkpoints-read, role-read, count-field, checkpoints-field, role-field}
 use Rattle.accept.specs.Refusal.{contentRefusal, logRefusal}

@@ -12,14 +12,16 @@ use Rattle.ranges.specs.Fold.{joinBelow}
 use Rattle.ranges.proofs.Order.{lt-or-le}
 use Rattle.bytes_le.specs.Little.{le, bytesOf, Bytes}
 use Rattle.bytes_le.proofs.Little.{read-bytes, number-below}
-use Rattle.log.specs.declared.Kind.the-variants.{Rest}
+use Rattle.records.specs.declared.Kind.the-variants.{Rest}
 use Rattle.log.specs.Header.{layoutRefusal}
-use Rattle.log.specs.Layout.{formField, sizeField, field, eventCountField, checkpointCountField, eventSize, checkpointSize, section, eventSection, checkpointSection, kindByte, eventRecord, identifierWord, checkpointRecord, workersOf}
+use Rattle.log.specs.Layout.{formField, sizeField, field, eventCountField, checkpointCountField, section, eventSection, checkpointSection, workersOf}
+use Rattle.records.specs.Event.{eventSize, kindByte, eventRecord}
+use Rattle.records.specs.Checkpoint.{checkpointSize, identifierWord, checkpointRecord}
 use Rattle.log.specs.Model.{workerCount, eventCount, checkpointCount}
 use Rattle.log.proofs.Readable.{readable}
 use Rattle.log.proofs.Read.{section-length, size-read, count-read, checkpoints-read, event-read, checkpoint-read}
-use Rattle.log.proofs.EventKinds.{kind-table}
-use Rattle.log.proofs.Marked.{word-back}
+use Rattle.records.proofs.EventKinds.{kind-table}
+use Rattle.records.proofs.Marked.{word-back}
 use Rattle.pack.specs.Inner.Room.{KnownKinds}
 use Rattle.pack.specs.Packed.{eventBytes, checkpointBytes, eventAt, checkpointAt, sectionsOf, sectionsSize}
 

@@ -18,7 +18,9 @@ use Rattle.bytes_le.proofs.Little.{length-bytes}
 use Rattle.log.specs.Model.{Log, Workers, workerCount}
 use Rattle.log.specs.Header.{layoutRefusal}
 use Rattle.log.specs.Limits.{maxLength, maxWorkers, maxEvents, maxCheckpoints}
-use Rattle.log.specs.Layout.{headerOf, eventSize, checkpointSize, eventSection, checkpointSection, workersOf}
+use Rattle.log.specs.Layout.{headerOf, eventSection, checkpointSection, workersOf}
+use Rattle.records.specs.Event.{eventSize}
+use Rattle.records.specs.Checkpoint.{checkpointSize}
 use Rattle.log.proofs.Read.{workers-few, count-field, checkpoints-field}
 use Rattle.pack.specs.Packed.{sectionsOf, sectionsSize, startOf, entryOf, packedLength, fieldsOf, packed}
 use Rattle.pack.specs.Inner.Room.{KnownKinds, Room}

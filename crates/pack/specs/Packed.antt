@@ -5,12 +5,14 @@ use Prim.Native.Nat.{ℕ, _+_, _*_}
 use Rattle.ranges.specs.Fold.{sumBelow, joinBelow}
 use Rattle.lent.specs.Lent.{at}
 use Rattle.bytes_le.specs.Little.{bytesOf}
-use Rattle.log.specs.declared.Event.{Event}
-use Rattle.log.specs.declared.Checkpoint.{Checkpoint}
-use Rattle.log.specs.Kind.{kindNumber}
-use Rattle.log.specs.Mark.{withMark}
+use Rattle.records.specs.declared.Event.{Event}
+use Rattle.records.specs.declared.Checkpoint.{Checkpoint}
+use Rattle.records.specs.Kind.{kindNumber}
+use Rattle.records.specs.Mark.{withMark}
 use Rattle.log.specs.Model.{Log, Workers, workerCount, roleOf, eventCount, eventOf, checkpointCount, checkpointOf}
-use Rattle.log.specs.Layout.{headerOf, eventSize, checkpointSize}
+use Rattle.log.specs.Layout.{headerOf}
+use Rattle.records.specs.Event.{eventSize}
+use Rattle.records.specs.Checkpoint.{checkpointSize}
 
 -- "kind (1 byte), peer (1 byte), spare (2 bytes, zero), peer event (4 bytes), stamp (4 bytes)"
 unfoldable pub eventBytes : Event → List ℕ

@@ -19,13 +19,13 @@ use Rattle.lent.specs.Lent.{orElse, wordsRefusal, onto, unlessRefused}
 use Rattle.accept.specs.Refusal.{given}
 use Rattle.accept.proofs.Accepted.{well-formed}
 use Rattle.lower_cut.specs.Figure2.{lowerCut}
-use Rattle.causality.specs.Refusals.{breakpointRefusal, scratchWords, scratchRefusal, lineRefusal, searchRefusal}
+use Rattle.refusals.specs.Refusals.{breakpointRefusal, scratchWords, scratchRefusal, lineRefusal, searchRefusal}
 use Rattle.upper_line.specs.Upper.{upperAt, upperLine}
-use Rattle.causality.proofs.Allowed.{breakpoint-ok, scratch-few}
-use Rattle.restore.specs.Plan.{planWords}
-use Rattle.restore.specs.declared.Totals.{Totals}
+use Rattle.refusals.proofs.Allowed.{breakpoint-ok, scratch-few}
+use Rattle.restore_plan.specs.Plan.{planWords}
+use Rattle.restore_plan.specs.declared.Totals.{Totals}
 use Rattle.unit_table.specs.Table.{builtIn}
-use Rattle.restore.specs.Calls.{foundPlan, planTotals}
+use Rattle.restore_plan.specs.Calls.{foundPlan, planTotals}
 use Rattle.plan_text.specs.Text.{breakpointLine, processLines, totalsLine, foundText, refusedText, planText}
 
 -- ---- what a call that is not refused leaves in the lent words

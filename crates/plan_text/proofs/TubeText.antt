@@ -5,20 +5,21 @@ use mathlib.Core.List.{List, _∷_, _++_}
 use Prim.Native.Nat.{ℕ}
 use Rattle.ranges.specs.Fold.{anyBelow, maxBelow, sumBelow, firstBelow, lastBelow, tabulate, sweep}
 use Rattle.bytes_le.specs.Little.{le}
-use Rattle.log.specs.Model.{workerCount, worker, roleOf, eventCount, eventOf, checkpointCount, checkpointOf, isSend, isUnlogged, isLogged, isReceive}
+use Rattle.log.specs.Model.{workerCount, worker, roleOf, eventCount, eventOf, checkpointCount, checkpointOf}
+use Rattle.records.specs.Event.{isSend, isUnlogged, isLogged, isReceive}
 use Rattle.lent.specs.Lent.{orElse}
 use Rattle.accept.specs.Tube.{tube, tubeLog}
 use Rattle.accept.proofs.Tube.{tube-workers, tube-accepted}
 use Rattle.accept.specs.Refusal.{given}
 use Rattle.lower_cut.specs.Calls.{foundCut}
-use Rattle.restore.specs.Calls.{foundPlan}
+use Rattle.restore_plan.specs.Calls.{foundPlan}
 use Rattle.causality.specs.Cut.{namedOf, component}
 use Rattle.lower_cut.specs.Figure2.{turnIf, turn, visit, visitAt, beginning, figure2}
-use Rattle.causality.specs.Refusals.{workerRefusal, eventRefusal, breakpointRefusal}
+use Rattle.refusals.specs.Refusals.{workerRefusal, eventRefusal, breakpointRefusal}
 use Rattle.upper_line.specs.Upper.{happened, upperAt, upperLine}
 use Rattle.lower_cut.specs.Workers.{bitOf, workersWord}
 use Rattle.choice.specs.Choice.{mayChoose, losesSend}
-use Rattle.restore.specs.Plan.{loses, workerLoses, someLoses, usable, indexIf, rolledBackAt, rolledBack, planStarts, standsAt, identifierOf, identifierAt, planWord, planWords}
+use Rattle.restore_plan.specs.Plan.{loses, workerLoses, someLoses, usable, indexIf, rolledBackAt, rolledBack, planStarts, standsAt, identifierOf, identifierAt, planWord, planWords}
 use Rattle.cost.specs.Words.{cutIn, startIn}
 use Rattle.unit_table.specs.Table.{builtIn}
 use Rattle.cost.specs.Cost.{replayed, eventsOf, eventUnits, workerUnits, unitsOf}

@@ -16,11 +16,11 @@ use Rattle.log.specs.Model.{Workers, workerCount, roleOf}
 use Rattle.lent.specs.Lent.{at, onto}
 use Rattle.accept.specs.Refusal.{given}
 use Rattle.lower_cut.specs.Figure2.{lowerCut}
-use Rattle.causality.specs.Refusals.{breakpointRefusal}
+use Rattle.refusals.specs.Refusals.{breakpointRefusal}
 use Rattle.upper_line.specs.Upper.{upperLine}
 use Rattle.unit_table.specs.Table.{builtIn}
-use Rattle.restore.specs.Calls.{foundPlan}
-use Rattle.restore.specs.Plan.{planWords}
+use Rattle.restore_plan.specs.Calls.{foundPlan}
+use Rattle.restore_plan.specs.Plan.{planWords}
 use Rattle.cost.specs.Words.{cutIn, startIn}
 use Rattle.plan_text.specs.Text.{ascii, spelled, decimal, withNumber, ended, refusedText, breakpointLine, fourNumbers, processLine, processLines, totalsLine, foundText, planText, textOf}
 use Rattle.plan_text.specs.Buffer.{Holds}

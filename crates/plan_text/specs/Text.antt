@@ -12,11 +12,11 @@ use Rattle.log.specs.Model.{Workers, workerCount, roleOf}
 use Rattle.lent.specs.Lent.{at}
 use Rattle.accept.specs.Refusal.{Given, given}
 use Rattle.lower_cut.specs.Figure2.{lowerCut}
-use Rattle.causality.specs.Refusals.{breakpointRefusal}
+use Rattle.refusals.specs.Refusals.{breakpointRefusal}
 use Rattle.upper_line.specs.Upper.{upperLine}
 use Rattle.unit_table.specs.Table.{builtIn}
-use Rattle.restore.specs.Calls.{foundPlan}
-use Rattle.restore.specs.Plan.{planWords}
+use Rattle.restore_plan.specs.Calls.{foundPlan}
+use Rattle.restore_plan.specs.Plan.{planWords}
 use Rattle.cost.specs.Words.{cutIn, startIn}
 
 -- the codes of a text's characters

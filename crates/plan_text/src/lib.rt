@@ -9,11 +9,11 @@ ghost use Rattle.log.specs.Layout.{workersOf};
 ghost use Rattle.log.specs.Model.{workerCount};
 ghost use Rattle.accept.specs.Refusal.{logRefusal, given};
 ghost use Rattle.lower_cut.specs.Figure2.{lowerCut};
-ghost use Rattle.causality.specs.Refusals.{breakpointRefusal, searchRefusal};
+ghost use Rattle.refusals.specs.Refusals.{breakpointRefusal, searchRefusal};
 ghost use Rattle.upper_line.specs.Upper.{upperLine};
-ghost use Rattle.restore.specs.Plan.{planWords};
+ghost use Rattle.restore_plan.specs.Plan.{planWords};
 ghost use Rattle.unit_table.specs.Table.{builtIn};
-ghost use Rattle.restore.specs.Calls.{foundPlan, planTotals};
+ghost use Rattle.restore_plan.specs.Calls.{foundPlan, planTotals};
 ghost use Rattle.plan_text.specs.Text.{withNumber, ended, refusedText, breakpointLine, fourNumbers, wordsOf, processLine, processLines, totalsLine, foundText, planText, textOf};
 ghost use Rattle.plan_text.specs.Buffer.{Holds, Adds};
 

@@ -1,4 +1,3 @@
-pub mod TubeTable
 pub mod Answered
 pub mod Covered
 pub mod Planned

@@ -8,9 +8,9 @@ use Rattle.lent.proofs.Lent.{named-words}
 use Rattle.log.specs.Layout.{workersOf, logOf}
 use Rattle.log.specs.Model.{workerCount}
 use Rattle.lower_cut.specs.Figure2.{lowerCut}
-use Rattle.restore.specs.Shown.{Shown}
-use Rattle.restore.proofs.Shown.{shown}
-use Rattle.restore.proofs.Written.{plan-long}
+use Rattle.restore_plan.specs.Shown.{Shown}
+use Rattle.restore_plan.proofs.Shown.{shown}
+use Rattle.restore_plan.proofs.Written.{plan-long}
 use Rattle.planner.specs.Calls.{plannedWords}
 
 pub shown-left : (s : List ℕ) (i e : ℕ) (words words′ : List ℕ) → words′ ≡ unlessRefused 0 (plannedWords (workersOf s) i e) words

@@ -10,23 +10,22 @@ use Rattle.log.specs.Layout.{workersOf}
 use Rattle.log.specs.Model.{Workers, workerCount}
 use Rattle.accept.specs.Refusal.{given}
 use Rattle.accept.specs.WellFormed.{WellFormed}
-use Rattle.causality.specs.Happened.{IsEvent}
+use Rattle.log.specs.Model.{IsEvent}
 use Rattle.lower_cut.specs.Figure2.{lowerCut}
-use Rattle.causality.proofs.Allowed.{SearchLent}
+use Rattle.refusals.proofs.Allowed.{SearchLent}
 use Rattle.unit_table.specs.Table.{Table}
-use Rattle.restore.specs.Calls.{planRefusal, foundPlan, planTotals}
-use Rattle.restore.specs.Plan.{planStarts}
+use Rattle.restore_plan.specs.Calls.{planRefusal, foundPlan, planTotals}
+use Rattle.restore_plan.specs.Plan.{planStarts}
 use Rattle.cost.specs.Words.{startsIn}
-use Rattle.restore.proofs.Written.{plan-long}
-use Rattle.restore.proofs.PlanTable.{plan-ok}
-use Rattle.replay.specs.Machine.{listed, stepWords}
-use Rattle.replay.specs.Calls.{machineRun, machineAfter}
-use Rattle.replay.specs.Inner.State.{IsState}
-use Rattle.replay.specs.Demand3.{Demand3}
-use Rattle.replay.proofs.Demand.{starts-long, plan-held-starts, after-long, demand-3}
-use Rattle.replay.proofs.Call.{plan-state}
+use Rattle.restore_plan.proofs.Written.{plan-long}
+use Rattle.restore_plan.proofs.PlanTable.{plan-ok}
+use Rattle.replay_machine.specs.Machine.{listed, stepWords}
+use Rattle.replay_machine.specs.Calls.{machineRun, machineAfter, roomRefusal, restoreRefusal}
+use Rattle.replay_machine.specs.Inner.State.{IsState}
+use Rattle.replay_machine.specs.Demand3.{Demand3}
+use Rattle.replay_machine.proofs.Demand.{starts-long, plan-held-starts, after-long, demand-3}
+use Rattle.replay_machine.proofs.Call.{plan-state}
 use Rattle.replay.proofs.Storing.{listed-length}
-use Rattle.replay.specs.Calls.{roomRefusal, restoreRefusal}
 use Rattle.planner.specs.Calls.{plannedWords, plannedRun, plannedAfter}
 use Rattle.planner.proofs.StepWords.{step-wide}
 

@@ -10,10 +10,10 @@ use lib.ListN.{length, take, drop, getD, set, length-take, length-drop, length-s
 use Rattle.log.specs.Model.{Workers}
 use Rattle.accept.specs.Refusal.{Given}
 use Rattle.cost.specs.Words.{cutsIn, startsIn}
-use Rattle.replay.specs.Machine.{stepOf, listed, stepWords}
-use Rattle.replay.specs.Calls.{machineAnswer, machineMoved, machineRun, stepAnswer, stepAfter}
-use Rattle.replay.proofs.Steps.{moved-long}
-use Rattle.replay.proofs.Call.{step-answer, step-positions}
+use Rattle.replay_machine.specs.Machine.{stepOf, listed, stepWords}
+use Rattle.replay_machine.specs.Calls.{machineAnswer, machineMoved, machineRun, stepAnswer, stepAfter}
+use Rattle.replay_machine.proofs.Steps.{moved-long}
+use Rattle.replay_machine.proofs.Call.{step-answer, step-positions}
 use Rattle.replay.proofs.Storing.{Storing, done-length, storing-room, storing-more, part-stored}
 
 -- the first word and the others

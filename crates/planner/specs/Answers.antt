@@ -12,15 +12,15 @@ use Rattle.accept.specs.Refusal.{Given, given, logRefusal}
 use Rattle.pack.specs.Packed.{packedLength, packed}
 use Rattle.pack.specs.Calls.{packRefusal}
 use Rattle.causality.specs.Cut.{vector, isConsistent}
-use Rattle.causality.specs.Refusals.{lineRefusal, searchRefusal, testRefusal}
+use Rattle.refusals.specs.Refusals.{lineRefusal, searchRefusal, testRefusal}
 use Rattle.unit_table.specs.Table.{tableOf}
 use Rattle.lower_cut.specs.Figure2.{lowerCut}
 use Rattle.lower_cut.specs.Calls.{foundCut, cutTotals}
 use Rattle.upper_line.specs.Upper.{upperLine}
 use Rattle.covering.specs.Covering.{coveringSet}
-use Rattle.restore.specs.Calls.{planRefusal, foundPlan, planTotals}
-use Rattle.replay.specs.Machine.{listed, answerWord, stepWords}
-use Rattle.replay.specs.Calls.{stepAnswer, stepAfter, stepsRefusal, restoreRefusal, machineRun, machineAfter}
+use Rattle.restore_plan.specs.Calls.{planRefusal, foundPlan, planTotals}
+use Rattle.replay_machine.specs.Machine.{listed, answerWord, stepWords}
+use Rattle.replay_machine.specs.Calls.{stepAnswer, stepAfter, stepsRefusal, restoreRefusal, machineRun, machineAfter}
 use Rattle.planner.specs.Calls.{wordOf, plannedWords, plannedRun, plannedAfter}
 
 -- the number that a call returns, and each slice that it was lent to write, as it is after the call

@@ -5,9 +5,9 @@ use mathlib.Core.List.{List}
 use Prim.Native.Nat.{ℕ}
 use Rattle.log.specs.Model.{Workers}
 use Rattle.lower_cut.specs.Figure2.{lowerCut}
-use Rattle.restore.specs.Plan.{planStarts, planWords}
-use Rattle.replay.specs.Machine.{Step}
-use Rattle.replay.specs.Calls.{machineRun, machineAfter}
+use Rattle.restore_plan.specs.Plan.{planStarts, planWords}
+use Rattle.replay_machine.specs.Machine.{Step}
+use Rattle.replay_machine.specs.Calls.{machineRun, machineAfter}
 
 -- a test's yes or no as a word: 1 for yes, 0 for no
 unfoldable pub wordOf : Bool → ℕ

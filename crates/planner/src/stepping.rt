@@ -8,9 +8,9 @@ ghost use Rattle.log.specs.Layout.{workersOf};
 ghost use Rattle.log.specs.Model.{workerCount};
 ghost use Rattle.accept.specs.Refusal.{logRefusal};
 ghost use Rattle.cost.specs.Words.{startsIn};
-ghost use Rattle.replay.specs.Machine.{listed, stepWords};
-ghost use Rattle.replay.specs.Calls.{machineRun, machineAfter};
-ghost use Rattle.replay.specs.Inner.State.{IsState};
+ghost use Rattle.replay_machine.specs.Machine.{listed, stepWords};
+ghost use Rattle.replay_machine.specs.Calls.{machineRun, machineAfter};
+ghost use Rattle.replay_machine.specs.Inner.State.{IsState};
 
 // Stores a call's answer and the positions after it.
 fn store(answer: u32, positions: &[u32], part: &mut [u32])

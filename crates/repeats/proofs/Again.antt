@@ -14,8 +14,9 @@ use Rattle.ranges.proofs.Any.{any-found, any-some}
 use Rattle.ranges.proofs.Bools.{and-true-left, and-true-right, never-true, both-ways}
 use Rattle.ranges.proofs.Order.{lt-or-le, eq-or-ne}
 use Rattle.lent.specs.Lent.{at}
-use Rattle.log.specs.declared.Event.{Event}
-use Rattle.log.specs.Model.{Workers, workerCount, eventCount, eventOf, isReceive}
+use Rattle.records.specs.declared.Event.{Event}
+use Rattle.log.specs.Model.{Workers, workerCount, eventCount, eventOf}
+use Rattle.records.specs.Event.{isReceive}
 use Rattle.log.specs.Header.{layoutRefusal}
 use Rattle.log.specs.Layout.{workersOf}
 use Rattle.log.specs.Limits.{maxWorkers}

@@ -13,8 +13,9 @@ use Rattle.ranges.specs.Fold.{anyBelow}
 use Rattle.ranges.proofs.Any.{any-none, any-next, any-found, any-some}
 use Rattle.ranges.proofs.Bools.{and-true-left, and-true-right, or-true-cases, never-true, both-ways}
 use Rattle.ranges.proofs.Order.{eq-or-ne}
-use Rattle.log.specs.declared.Event.{Event}
-use Rattle.log.specs.Model.{Workers, eventCount, eventOf, isReceive, received}
+use Rattle.records.specs.declared.Event.{Event}
+use Rattle.log.specs.Model.{Workers, eventCount, eventOf}
+use Rattle.records.specs.Event.{isReceive, received}
 use Rattle.repeats.specs.Inner.Again.{Messages, again}
 use Rattle.repeats.specs.Inner.Table.{tableBits, bitAt, marked, placeOf, hasBit, tableAfter, foundMarked, receivesPlace, workerReceives, receivedBefore, Marks, againWithin}
 use Rattle.repeats.proofs.Again.{Same, again-from, again-by, one-worker}

@@ -12,8 +12,9 @@ use Rattle.ranges.proofs.Any.{any-found, any-some}
 use Rattle.ranges.proofs.Bools.{and-true-left, and-true-right, never-true, both-ways}
 use Rattle.ranges.proofs.Order.{lt-or-le}
 use Rattle.ranges.proofs.Sum.{sum-none, sum-more, sum-grows, sum-bound}
-use Rattle.log.specs.declared.Event.{Event}
-use Rattle.log.specs.Model.{Workers, workerCount, eventCount, eventOf, isReceive, received}
+use Rattle.records.specs.declared.Event.{Event}
+use Rattle.log.specs.Model.{Workers, workerCount, eventCount, eventOf}
+use Rattle.records.specs.Event.{isReceive, received}
 use Rattle.log.specs.Header.{layoutRefusal}
 use Rattle.log.specs.Layout.{workersOf}
 use Rattle.log.specs.Limits.{maxWorkers, maxEvents}

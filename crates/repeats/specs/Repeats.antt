@@ -5,9 +5,10 @@ use mathlib.Core.Bool.{Bool, true, not, _&&_}
 use Prim.Native.Nat.{ℕ, _+_}
 use lib.Dec.{eqb}
 use Rattle.ranges.specs.Fold.{anyBelow}
-use Rattle.log.specs.declared.Event.{Event}
-use Rattle.log.specs.Forms.{receivesOnce}
-use Rattle.log.specs.Model.{Log, Workers, workerCount, eventCount, eventOf, isReceive}
+use Rattle.records.specs.declared.Event.{Event}
+use Rattle.records.specs.Forms.{receivesOnce}
+use Rattle.log.specs.Model.{Log, Workers, workerCount, eventCount, eventOf}
+use Rattle.records.specs.Event.{isReceive}
 
 -- both are receives, and they name the same event of the same worker
 unfoldable pub sameSend : Event → Event → Bool

@@ -1,15 +1,16 @@
 // Test 24: whether a log of form 2 has two receives of one send. Where the receives of each worker name rising sends of each peer, one pass says that there are
 // none; else the receives are gone through with a table of bits, one for each event that may be a send.
 
-use log::Event;
+use records::Event;
 ghost use mathlib.Core.Path.{_≡_};
 ghost use mathlib.Core.Bool.{false, _&&_};
 ghost use Prim.Native.Nat.{_+_, _*_, _<_, _≤_};
 ghost use lib.Dec.{eqb};
 ghost use lib.ListN.{length};
-ghost use Rattle.log.specs.Forms.{receivesOnce};
+ghost use Rattle.records.specs.Forms.{receivesOnce};
 ghost use Rattle.log.specs.Header.{layoutRefusal};
-ghost use Rattle.log.specs.Model.{workerCount, received};
+ghost use Rattle.log.specs.Model.{workerCount};
+ghost use Rattle.records.specs.Event.{received};
 ghost use Rattle.log.specs.Layout.{formField, workersOf, logOf};
 ghost use Rattle.repeats.specs.Repeats.{repeatFault};
 ghost use Rattle.repeats.specs.Inner.Again.{Messages, workerAgain, someAgain};
@@ -22,7 +23,7 @@ fn before_send(e: Event) -> u32
 {
     let send = e.send;
     if send == 0 {
-        return log::NO_SEND;
+        return records::NO_SEND;
     }
     send - 1
 }
@@ -104,7 +105,7 @@ fn place_of(log: &[u8], firsts: &[u32], e: Event) -> usize
     ensures answer { λ r. ⌜ r ≡ placeOf (workersOf (now (log .entry))) e ⌝ }
 {
     let peer = e.peer as usize;
-    firsts[peer] as usize + (e.send - log::received(e)) as usize
+    firsts[peer] as usize + (e.send - records::received(e)) as usize
 }
 
 // Marks what an event receives, where the table, whose bits are those from number `low` on, has a bit for it; whether that was marked before.
@@ -120,7 +121,7 @@ fn mark_event(log: &[u8], firsts: &[u32], low: usize, e: Event, table: &mut [u32
     if WORD_BITS * table.len() <= place - low {
         return false;
     }
-    mark(table, place - low, log::received(e))
+    mark(table, place - low, records::received(e))
 }
 
 // The same for every event of worker w, up to one that receives what was marked before.

@@ -6,11 +6,11 @@ use Prim.Native.Nat.{ℕ, _<_, _≤_}
 use native.Mathlib.Omega.{arith}
 use lib.Dec.{leb}
 use borrow.Author.Tests.{lt-ltb, le-ltb}
-use Rattle.log.specs.declared.Event.{Event}
-use Rattle.log.specs.Model.{isUnlogged, unloggedSend}
+use Rattle.records.specs.declared.Event.{Event}
+use Rattle.records.specs.Event.{isUnlogged, unloggedSend}
 use Rattle.lent.specs.Lent.{at}
 use Rattle.choice.specs.Choice.{losesSend}
-use Rattle.replay.specs.Machine.{receiveAnswer, eventAnswer}
+use Rattle.replay_machine.specs.Machine.{receiveAnswer, eventAnswer}
 
 module _ (starts positions : List ℕ) (e : Event) where
   pub compared-waits : at positions (e .peer) < unloggedSend e 0 → eventAnswer starts positions e ≡ 22

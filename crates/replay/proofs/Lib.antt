@@ -1,9 +1,2 @@
-pub mod Steps
-pub mod Lists
-pub mod Count
-pub mod Progress
-pub mod Works
 pub mod Compared
-pub mod Call
 pub mod Storing
-pub mod Demand

@@ -14,12 +14,12 @@ use Rattle.lent.specs.Lent.{wordsRefusal}
 use Rattle.lent.proofs.Lent.{words-short, words-enough}
 use Rattle.log.specs.Model.{Workers}
 use Rattle.cost.specs.Words.{cutsIn, startsIn}
-use Rattle.replay.specs.Machine.{Step, stepOf, moved, run, positionsAfter, listed, answerWord}
-use Rattle.replay.specs.Calls.{machineAnswer, machineMoved, machineRun, machineAfter}
-use Rattle.replay.specs.Inner.State.{IsState}
-use Rattle.replay.proofs.Steps.{moved-long}
-use Rattle.replay.proofs.Lists.{run-more, after-more}
-use Rattle.replay.proofs.Call.{moved-state}
+use Rattle.replay_machine.specs.Machine.{Step, stepOf, moved, run, positionsAfter, listed, answerWord}
+use Rattle.replay_machine.specs.Calls.{machineAnswer, machineMoved, machineRun, machineAfter}
+use Rattle.replay_machine.specs.Inner.State.{IsState}
+use Rattle.replay_machine.proofs.Steps.{moved-long}
+use Rattle.replay_machine.proofs.Lists.{run-more, after-more}
+use Rattle.replay_machine.proofs.Call.{moved-state}
 
 pub listed-append : (each : Step → List ℕ) (a b : List Step) → listed each (a ++ b) ≡ listed each a ++ listed each b
 unfolding listed

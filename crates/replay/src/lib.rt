@@ -3,7 +3,7 @@
 pub mod list;
 
 use choice::loses_send;
-use log::Event;
+use records::Event;
 ghost use mathlib.Core.Path.{_≡_};
 ghost use mathlib.Core.List.{List};
 ghost use Prim.Native.Nat.{ℕ, _+_, _*_, _<_, _≤_};
@@ -15,9 +15,9 @@ ghost use Rattle.log.specs.Limits.{maxEvents};
 ghost use Rattle.log.specs.Model.{workerCount};
 ghost use Rattle.accept.specs.Refusal.{logRefusal, given};
 ghost use Rattle.cost.specs.Words.{startIn};
-ghost use Rattle.replay.specs.Machine.{eventAnswer};
-ghost use Rattle.replay.specs.Calls.{disordered, stateRefusal, stepRefusal, machineAnswer, machineMoved, stepAnswer, stepAfter};
-ghost use Rattle.replay.specs.Inner.State.{IsState};
+ghost use Rattle.replay_machine.specs.Machine.{eventAnswer};
+ghost use Rattle.replay_machine.specs.Calls.{disordered, stateRefusal, stepRefusal, machineAnswer, machineMoved, stepAnswer, stepAfter};
+ghost use Rattle.replay_machine.specs.Inner.State.{IsState};
 
 // Whether worker w is without start <= position <= cut <= count.
 fn is_disordered(log: &[u8], words: &[u32], positions: &[u32], w: usize) -> bool
@@ -76,7 +76,7 @@ fn step_refusal(log: &[u8], words: &[u32], positions: &[u32], worker: u32) -> u3
         return refusal;
     }
     lent::or_else(
-        causality::refusals::worker_refusal(log, worker),
+        refusals::worker_refusal(log, worker),
         state_refusal(log, words, positions, 0),
     )
 }
@@ -87,7 +87,7 @@ fn event_answer(words: &[u32], positions: &[u32], e: Event) -> u32
     ensures answer { λ r. ⌜ ((starts : List ℕ) → at starts (e .peer) ≡ startIn (now (words .entry)) (e .peer) → r ≡ eventAnswer starts (now (positions .entry)) e) ⌝ }
 {
     let peer = e.peer as usize;
-    if positions[peer] < log::unlogged_send(e, 0) {
+    if positions[peer] < records::unlogged_send(e, 0) {
         return 22;
     }
     if loses_send(e, words[3 * peer + 1]) {

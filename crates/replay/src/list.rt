@@ -7,9 +7,9 @@ ghost use lib.ListN.{length, drop};
 ghost use Rattle.lent.specs.Lent.{wordsRefusal, unlessRefused};
 ghost use Rattle.log.specs.Layout.{workersOf};
 ghost use Rattle.accept.specs.Refusal.{logRefusal, given};
-ghost use Rattle.replay.specs.Machine.{listed, answerWord};
-ghost use Rattle.replay.specs.Calls.{stepsRefusal, roomRefusal, restoreRefusal, machineRun, machineAfter};
-ghost use Rattle.replay.specs.Inner.State.{IsState};
+ghost use Rattle.replay_machine.specs.Machine.{listed, answerWord};
+ghost use Rattle.replay_machine.specs.Calls.{stepsRefusal, roomRefusal, restoreRefusal, machineRun, machineAfter};
+ghost use Rattle.replay_machine.specs.Inner.State.{IsState};
 
 // The log's refusals, then 14 and 16, of a list of steps.
 fn steps_refusal(log: &[u8], words: &[u32], positions: &[u32], others: u32) -> u32

@@ -1,11 +1,1 @@
-pub mod Chosen
-pub mod RolledBack
-pub mod Latest
-pub mod Placed
-pub mod Settling
-pub mod Begun
-pub mod Finished
-pub mod Written
-pub mod Floor
-pub mod Shown
-pub mod PlanTable
+pub mod Spreading

@@ -1,8 +1,7 @@
 // The restore plan of a breakpoint event.
 
-mod starts;
-
 use lower_cut::Cut;
+use restore_plan::Totals;
 ghost use mathlib.Core.Path.{_≡_};
 ghost use Prim.Native.Nat.{_*_, _<_, _≤_};
 ghost use lib.ListN.{length, take};
@@ -11,23 +10,14 @@ ghost use Rattle.lent.specs.Lent.{onto, unlessRefused, KeptIfRefused};
 ghost use Rattle.log.specs.Layout.{workersOf};
 ghost use Rattle.log.specs.Model.{workerCount};
 ghost use Rattle.accept.specs.Refusal.{logRefusal, given};
-ghost use Rattle.causality.specs.Happened.{IsEvent};
+ghost use Rattle.log.specs.Model.{IsEvent};
 ghost use Rattle.lower_cut.specs.Figure2.{lowerCut};
 ghost use Rattle.lower_cut.specs.Calls.{foundCut};
-ghost use Rattle.restore.specs.Plan.{planWords};
+ghost use Rattle.restore_plan.specs.Plan.{planWords};
 ghost use Rattle.cost.specs.Words.{cutIn, cutsIn};
 ghost use Rattle.unit_table.specs.Table.{tableOf, tableRefusal};
-ghost use Rattle.restore.specs.Calls.{planRefusal, foundPlan, planAnswer, planTotals};
-ghost use Rattle.restore.specs.Floor.{Floor};
-
-// What the plan returns beside its words.
-pub struct Totals {
-    pub refusal: u32,
-    pub visits: u64,
-    pub events: u64,
-    pub units: u64,
-    pub workers: u64,
-}
+ghost use Rattle.restore_plan.specs.Calls.{planRefusal, foundPlan, planAnswer, planTotals};
+ghost use Rattle.restore_plan.specs.Floor.{Floor};
 
 // Moves the cut in the first n words to the first word of each worker, from the last worker down.
 fn spread(words: &mut [u32], n: usize)
@@ -93,7 +83,7 @@ pub fn plan_refusal(
 ) -> u32
     ensures answer { λ r. ⌜ r ≡ planRefusal (given (now (log .entry))) worker event (now (table .entry)) words others scratch ⌝ }
 {
-    let search = causality::refusals::search_refusal(log, worker, event, 3, words, others, scratch);
+    let search = refusals::search_refusal(log, worker, event, 3, words, others, scratch);
     let loading = unit_table::table_refusal(table);
     lent::or_else(search, loading)
 }

@@ -9,8 +9,8 @@ use lib.ListN.{getD}
 use Rattle.ranges.specs.Fold.{anyBelow, tabulate, joinBelow}
 use Rattle.ranges.proofs.Any.{any-each}
 use Rattle.lent.specs.Lent.{at}
-use Rattle.log.specs.declared.Kind.{Kind}
-use Rattle.log.specs.Kind.{column}
+use Rattle.records.specs.declared.Kind.{Kind}
+use Rattle.records.specs.Kind.{column}
 use Rattle.unit_table.specs.Table.{tableWords, rows, builtIn, tableOf, builtInWords, outside, tableRefusal}
 
 -- "The built-in table loads like any other"

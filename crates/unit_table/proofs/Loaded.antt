@@ -14,8 +14,8 @@ use Rattle.ranges.proofs.Bools.{or-false-left, or-false-right}
 use Rattle.ranges.proofs.Order.{lt-or-le}
 use Rattle.lent.specs.Lent.{at}
 use Rattle.lent.proofs.Lent.{peel}
-use Rattle.log.specs.declared.Kind.{Kind}
-use Rattle.log.specs.Kind.{column}
+use Rattle.records.specs.declared.Kind.{Kind}
+use Rattle.records.specs.Kind.{column}
 use Rattle.unit_table.specs.Table.{tableWords, maxUnits, tableOf, outside, tableRefusal}
 
 module _ (words : List ℕ) (loaded : tableRefusal words ≡ 0) where

@@ -7,8 +7,8 @@ use lib.Dec.{eqb, ltb}
 use lib.ListN.{length, getD}
 use Rattle.ranges.specs.Fold.{anyBelow, joinBelow}
 use Rattle.lent.specs.Lent.{at}
-use Rattle.log.specs.declared.Kind.{Kind}
-use Rattle.log.specs.Kind.{column}
+use Rattle.records.specs.declared.Kind.{Kind}
+use Rattle.records.specs.Kind.{column}
 
 -- "12 words": for four roles and three kinds
 abbrev pub tableWords : ℕ

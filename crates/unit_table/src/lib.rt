@@ -1,11 +1,11 @@
 // Unit tables: 12 words, a row of three for each of the four roles, in it a send, a receive without its data, a receive with it.
 
-use log::Kind;
+use records::Kind;
 ghost use mathlib.Core.Path.{_≡_};
 ghost use Prim.Native.Nat.{_<_};
 ghost use lib.ListN.{length};
 ghost use Rattle.ranges.specs.Fold.{anyBelow};
-ghost use Rattle.log.specs.Kind.{column};
+ghost use Rattle.records.specs.Kind.{column};
 ghost use Rattle.unit_table.specs.Table.{tableWords, tableOf, builtInWords, outside, tableRefusal};
 
 // The words of a unit table, the kinds that one of its rows has, and the least and the largest word.
@@ -75,6 +75,6 @@ pub fn units_for(table: &[u32], role: usize, kind: Kind) -> u32
     requires { ⌜ (length (now table) ≡ tableWords) × (role < 4) × (column kind < 3) ⌝ }
     ensures answer { λ r. ⌜ r ≡ tableOf (now (table .entry)) role kind ⌝ }
 {
-    let column = log::column(kind) as usize;
+    let column = records::column(kind) as usize;
     table[KINDS * role + column]
 }

@@ -8,9 +8,10 @@ use Prim.Native.Nat.{ℕ, _+_, _<_}
 use native.Mathlib.Omega.{arith}
 use borrow.Author.Tests.{le-ltb, ne-eqb}
 use lib.Dec.{eqb, ltb}
-use Rattle.log.specs.declared.Event.{Event}
+use Rattle.records.specs.declared.Event.{Event}
 use Rattle.log.specs.Layout.{workersOf}
-use Rattle.log.specs.Model.{eventCount, eventOf, isReceive}
+use Rattle.log.specs.Model.{eventCount, eventOf}
+use Rattle.records.specs.Event.{isReceive}
 use Rattle.accept.specs.Refusal.{logRefusal}
 use Rattle.lent.specs.Lent.{at}
 use Rattle.causality.proofs.Peers.{names-none}

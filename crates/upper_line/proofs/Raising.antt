@@ -16,13 +16,14 @@ use Rattle.ranges.proofs.Order.{lt-or-le, eq-or-ne}
 use Rattle.ranges.proofs.Store.{set-cases, set-grows}
 use Rattle.ranges.proofs.Sum.{sum-lt}
 use Rattle.ranges.proofs.Tabulate.{getD-replicate-all}
-use Rattle.log.specs.declared.Event.{Event}
+use Rattle.records.specs.declared.Event.{Event}
 use Rattle.log.specs.Limits.{maxWorkers, maxEvents}
-use Rattle.log.specs.Model.{Workers, workerCount, eventCount, eventOf, isReceive}
+use Rattle.log.specs.Model.{Workers, workerCount, eventCount, eventOf, IsEvent}
+use Rattle.records.specs.Event.{isReceive}
 use Rattle.log.proofs.Read.{worker-within}
 use Rattle.accept.specs.WellFormed.{WellFormed}
 use Rattle.accept.proofs.Stamps.{stamps-grow}
-use Rattle.causality.specs.Happened.{IsEvent, HappenedBefore, earlier, message, through}
+use Rattle.causality.specs.Happened.{HappenedBefore, earlier, message, through}
 use Rattle.lent.specs.Lent.{at}
 use Rattle.causality.specs.Cut.{IsCut, Consistent, Within}
 use Rattle.lower_cut.specs.Inner.Visiting.{wordSum}

@@ -14,10 +14,11 @@ use Rattle.ranges.specs.Fold.{firstBelow}
 use Rattle.ranges.proofs.First.{IsFirst, first}
 use Rattle.ranges.proofs.Order.{lt-or-le, eq-or-ne}
 use Rattle.ranges.proofs.Tabulate.{length-tabulate, getD-tabulate, getD-tabulate-past}
-use Rattle.log.specs.Model.{Workers, workerCount, eventCount, eventOf, isReceive}
+use Rattle.log.specs.Model.{Workers, workerCount, eventCount, eventOf, IsEvent}
+use Rattle.records.specs.Event.{isReceive}
 use Rattle.log.proofs.Read.{worker-within}
 use Rattle.accept.specs.WellFormed.{WellFormed}
-use Rattle.causality.specs.Happened.{IsEvent, HappenedBefore, earlier, message, through}
+use Rattle.causality.specs.Happened.{HappenedBefore, earlier, message, through}
 use Rattle.lent.specs.Lent.{at}
 use Rattle.causality.specs.Cut.{IsCut, Consistent, Within}
 use Rattle.lower_cut.specs.Figure2.{lowerCut}

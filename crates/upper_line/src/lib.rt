@@ -8,8 +8,8 @@ ghost use Rattle.lent.specs.Lent.{unlessRefused};
 ghost use Rattle.log.specs.Layout.{workersOf};
 ghost use Rattle.log.specs.Model.{workerCount, eventCount};
 ghost use Rattle.accept.specs.Refusal.{logRefusal, given};
-ghost use Rattle.causality.specs.Happened.{IsEvent};
-ghost use Rattle.causality.specs.Refusals.{lineRefusal};
+ghost use Rattle.log.specs.Model.{IsEvent};
+ghost use Rattle.refusals.specs.Refusals.{lineRefusal};
 ghost use Rattle.upper_line.specs.Upper.{upperLine};
 ghost use Rattle.upper_line.specs.Inner.Raising.{blocked, Passed, Raised};
 
@@ -87,7 +87,7 @@ pub fn upper_line(log: &[u8], worker: u32, event: u32, words: &mut [u32]) -> u32
     ensures answer { λ r. ⌜ r ≡ lineRefusal (given (now (log .entry))) worker event 1 (length (now (words .entry))) 0 ⌝ }
     ensures words { λ r. ⌜ now (words .exit) ≡ unlessRefused r (upperLine (workersOf (now (log .entry))) worker event) (now (words .entry)) ⌝ }
 {
-    let refusal = causality::refusals::line_refusal(log, worker, event, 1, words.len(), 0);
+    let refusal = refusals::line_refusal(log, worker, event, 1, words.len(), 0);
     if refusal != 0 {
         return refusal;
     }

@@ -3,7 +3,7 @@ use mathlib.Core.Path.{_≡_, sym, _∙_}
 use mathlib.Core.Bool.{false}
 use Rattle.ranges.proofs.Bools.{said-false}
 use Rattle.log.specs.Layout.{workersOf}
-use Rattle.accept.specs.Records.{someRecord}
+use Rattle.record_tests.specs.Records.{someRecord}
 use Rattle.accept.specs.Refusal.{eventsRefusal}
 use Rattle.accept.proofs.Quick.{quick-none}
 use borrow.Author.Needs.{needs}

@@ -3,7 +3,7 @@ use mathlib.Core.Path.{sym, _∙_}
 use borrow.Author.Tests.{ne-eqb}
 use Rattle.accept.proofs.Accepted.{well-formed}
 use Rattle.causality.specs.Calls.{yesUnless}
-use Rattle.causality.proofs.Allowed.{test-ok}
+use Rattle.refusals.proofs.Allowed.{test-ok}
 use Rattle.causality.proofs.CutTest.{first-words}
 use borrow.Author.Needs.{needs}
 use Rattle.causality.proofs.cut_test.Statement.{statement}

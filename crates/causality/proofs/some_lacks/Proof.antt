@@ -5,7 +5,7 @@ use Rattle.ranges.proofs.Any.{Sought, sought-none, sought-more, sought-found, s
 use Rattle.log.specs.Layout.{workersOf}
 use Rattle.accept.proofs.Accepted.{accepted-layout}
 use Rattle.causality.specs.Cut.{workerLacks}
-use Rattle.causality.proofs.Allowed.{under}
+use Rattle.refusals.proofs.Allowed.{under}
 use Rattle.causality.proofs.some_lacks.Statement.{statement}
 use Rattle.causality.proofs.some_lacks.Tie as tie
 

@@ -6,7 +6,7 @@ use borrow.Author.Tests.{lt-ltb, le-ltb}
 use Rattle.ranges.proofs.Any.{Sought, sought-none, sought-more, sought-found, sought-end}
 use Rattle.log.specs.Layout.{workersOf}
 use Rattle.accept.proofs.Accepted.{accepted-layout}
-use Rattle.causality.specs.Refusals.{overCount}
+use Rattle.refusals.specs.Refusals.{overCount}
 use Rattle.causality.proofs.some_over_count.Statement.{statement}
 use Rattle.causality.proofs.some_over_count.Tie as tie
 

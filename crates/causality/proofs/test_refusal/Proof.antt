@@ -7,7 +7,7 @@ use Rattle.lent.proofs.Lent.{or-else-zero, or-else-first, or-else-second, words
 use Rattle.log.specs.Layout.{workersOf}
 use Rattle.accept.specs.Refusal.{given}
 use Rattle.accept.proofs.Accepted.{accepted-layout}
-use Rattle.causality.specs.Refusals.{cutRefusal, testRefusal}
+use Rattle.refusals.specs.Refusals.{cutRefusal, testRefusal}
 use borrow.Author.Needs.{needs}
 use Rattle.causality.proofs.test_refusal.Statement.{statement}
 use Rattle.causality.proofs.test_refusal.Tie as tie

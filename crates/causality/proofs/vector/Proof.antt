@@ -5,7 +5,7 @@ use native.Mathlib.Omega.{arith}
 use Rattle.accept.proofs.Accepted.{accepted-layout}
 use Rattle.lent.proofs.Lent.{written, untouched}
 use Rattle.causality.proofs.Row.{vector-length}
-use Rattle.causality.proofs.Allowed.{line-ok}
+use Rattle.refusals.proofs.Allowed.{line-ok}
 use borrow.Author.Needs.{needs}
 use Rattle.causality.proofs.vector.Statement.{statement}
 use Rattle.causality.proofs.vector.Tie as tie

@@ -6,8 +6,9 @@ use Prim.Native.Nat.{ℕ, max}
 use lib.Dec.{leb}
 use lib.ListN.{set}
 use Rattle.ranges.specs.Fold.{maxBelow, tabulate}
-use Rattle.log.specs.declared.Event.{Event}
-use Rattle.log.specs.Model.{Workers, workerCount, isReceive}
+use Rattle.records.specs.declared.Event.{Event}
+use Rattle.log.specs.Model.{Workers, workerCount}
+use Rattle.records.specs.Event.{isReceive}
 use Rattle.lent.specs.Lent.{at}
 use Rattle.causality.specs.Cut.{namedOf}
 

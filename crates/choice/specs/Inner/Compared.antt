@@ -2,8 +2,8 @@
 -- Assumes nothing.
 use mathlib.Core.Bool.{cond}
 use Prim.Native.Nat.{ℕ}
-use Rattle.log.specs.declared.Event.{Event}
-use Rattle.log.specs.Model.{isUnlogged}
+use Rattle.records.specs.declared.Event.{Event}
+use Rattle.records.specs.Event.{isUnlogged}
 
 -- what the code adds to an event's send, so that one comparison with a start serves every kind
 unfoldable pub aboveStarts : Event → ℕ

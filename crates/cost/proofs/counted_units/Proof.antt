@@ -2,7 +2,7 @@
 use mathlib.Core.Path.{_≡_}
 use Prim.Native.Nat.{ℕ, _+_, _-_, _*_, _≤_}
 use native.Mathlib.Omega.{arith}
-use Rattle.log.specs.declared.Kind.the-variants.{Send, Unlogged, Logged}
+use Rattle.records.specs.declared.Kind.the-variants.{Send, Unlogged, Logged}
 use Rattle.log.specs.Limits.{maxEvents}
 use Rattle.unit_table.specs.Table.{maxUnits, tableOf}
 use Rattle.unit_table.proofs.Loaded.{loaded-long}

@@ -4,7 +4,7 @@ use Prim.Native.Nat.{_+_, _-_, _<_, _≤_}
 use native.Mathlib.Omega.{arith}
 use native.Mathlib.Nat.{le-antisymm}
 use borrow.Author.Needs.{needs}
-use Rattle.log.specs.declared.Event.{Event}
+use Rattle.records.specs.declared.Event.{Event}
 use Rattle.log.specs.Limits.{maxEvents}
 use Rattle.log.specs.Layout.{workersOf}
 use Rattle.log.specs.Model.{eventCount, eventOf}

@@ -1,8 +1,8 @@
 -- The units of counted events.
 -- Assumes nothing.
 use Prim.Native.Nat.{ℕ, _+_, _-_, _*_}
-use Rattle.log.specs.declared.Kind.{Kind}
-use Rattle.log.specs.declared.Kind.the-variants.{Send, Unlogged, Logged, Rest}
+use Rattle.records.specs.declared.Kind.{Kind}
+use Rattle.records.specs.declared.Kind.the-variants.{Send, Unlogged, Logged, Rest}
 use Rattle.unit_table.specs.Table.{Table}
 
 -- what a receive with its data adds to a sum of counts: more than a worker has events

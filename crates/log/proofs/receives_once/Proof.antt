@@ -1,12 +1,11 @@
 -- `log::receives_once` meets its contract. Assumes nothing.
-use Rattle.log.specs.Forms.{receivesOnce}
+use borrow.Author.Needs.{needs}
 use Rattle.log.proofs.Readable.{readable}
 use Rattle.log.proofs.receives_once.Statement.{statement}
 use Rattle.log.proofs.receives_once.Tie as tie
 
 returns : tie.Need-returns
-unfolding receivesOnce
-returns c = rw (c .form-field .ensures)
+returns c = rw (c .receives-once .ensures, c .before .form-field .ensures)
 
 pub receives-once-spec : {M : Type 1} → statement M
-receives-once-spec = tie.close (tie.spec (λ c κs. readable _ (c .before .pre) .long) returns)
+receives-once-spec = tie.close (tie.spec (λ c κs. readable _ (c .before .pre) .long) (λ c κs. search needs) returns)

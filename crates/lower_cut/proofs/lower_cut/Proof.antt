@@ -6,7 +6,7 @@ use native.Mathlib.Omega.{arith}
 use Rattle.lent.proofs.Lent.{written, untouched}
 use Rattle.accept.proofs.Accepted.{accepted-layout, well-formed}
 use Rattle.lower_cut.specs.Calls.{foundCut, cutAnswer}
-use Rattle.causality.proofs.Allowed.{search-ok}
+use Rattle.refusals.proofs.Allowed.{search-ok}
 use Rattle.lower_cut.proofs.LowerCut.{lower-is}
 use borrow.Author.Needs.{needs}
 use Rattle.lower_cut.proofs.lower_cut.Statement.{statement}

@@ -5,8 +5,7 @@ use mathlib.Core.Logic.{_≢_}
 use mathlib.Core.List.{List}
 use Prim.Native.Nat.{ℕ, _<_, _≤_}
 use Rattle.ranges.specs.Fold.{sumBelow}
-use Rattle.log.specs.Model.{Workers, workerCount, eventOf}
-use Rattle.causality.specs.Happened.{IsEvent}
+use Rattle.log.specs.Model.{Workers, workerCount, eventOf, IsEvent}
 use Rattle.lent.specs.Lent.{at}
 use Rattle.causality.specs.Cut.{component, IsCut}
 

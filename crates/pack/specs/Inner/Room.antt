@@ -4,7 +4,7 @@ use mathlib.Core.Path.{_≡_}
 use mathlib.Core.List.{List}
 use mathlib.Core.Logic.{_≢_}
 use Prim.Native.Nat.{ℕ, _<_, _≤_}
-use Rattle.log.specs.declared.Kind.the-variants.{Rest}
+use Rattle.records.specs.declared.Kind.the-variants.{Rest}
 use Rattle.log.specs.Header.{layoutRefusal}
 use Rattle.log.specs.Limits.{maxLength}
 use Rattle.log.specs.Layout.{workersOf}

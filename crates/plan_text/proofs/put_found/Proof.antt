@@ -2,8 +2,8 @@
 use borrow.Author.Needs.{needs}
 use mathlib.Core.Path.{refl}
 use native.Mathlib.Omega.{arith}
-use Rattle.causality.proofs.Allowed.{breakpoint-ok}
-use Rattle.restore.proofs.Written.{plan-long}
+use Rattle.refusals.proofs.Allowed.{breakpoint-ok}
+use Rattle.restore_plan.proofs.Written.{plan-long}
 use Rattle.plan_text.proofs.Enough.{upper-long, totals-long, found-text}
 use Rattle.plan_text.proofs.put_found.Statement.{statement}
 use Rattle.plan_text.proofs.put_found.Tie as tie

@@ -5,8 +5,8 @@ use Prim.Native.Nat.{ℕ, _*_}
 use native.Mathlib.Omega.{arith}
 use lib.Seq.{length-take-le}
 use Rattle.accept.proofs.Accepted.{accepted-layout}
-use Rattle.causality.proofs.Allowed.{breakpoint-ok}
-use Rattle.restore.proofs.Written.{plan-long}
+use Rattle.refusals.proofs.Allowed.{breakpoint-ok}
+use Rattle.restore_plan.proofs.Written.{plan-long}
 use Rattle.plan_text.proofs.Enough.{take-new, all-new, upper-long, totals-long, plan-number, line-number, refused-text, accepted-text}
 use Rattle.plan_text.proofs.put_plan.Statement.{statement}
 use Rattle.plan_text.proofs.put_plan.Tie as tie

@@ -1,7 +1,7 @@
 -- `planner::cut_test` meets its contract. Assumes nothing.
 use mathlib.Core.Path.{sym, _∙_}
 use Rattle.lent.proofs.Lent.{words-ok}
-use Rattle.causality.proofs.Allowed.{test-ok}
+use Rattle.refusals.proofs.Allowed.{test-ok}
 use Rattle.planner.proofs.Answered.{answered}
 use borrow.Author.Needs.{needs}
 use Rattle.planner.proofs.cut_test.Statement.{statement}

@@ -1,7 +1,7 @@
 -- `planner::lower_cut` meets its contract. Assumes nothing.
 use mathlib.Core.Path.{refl, sym, _∙_}
 use Rattle.lent.proofs.Lent.{words-ok, put-found, untouched}
-use Rattle.causality.proofs.Allowed.{search-ok}
+use Rattle.refusals.proofs.Allowed.{search-ok}
 use Rattle.lower_cut.specs.Calls.{cutAnswer, cutTotals}
 use borrow.Author.Needs.{needs}
 use Rattle.planner.proofs.lower_cut.Statement.{statement}

@@ -1,8 +1,8 @@
 -- `planner::plan` meets its contract. Assumes nothing.
 use mathlib.Core.Path.{refl, sym, _∙_}
 use Rattle.lent.proofs.Lent.{words-ok, put-found, untouched}
-use Rattle.restore.proofs.PlanTable.{plan-ok, as-before}
-use Rattle.restore.specs.Calls.{planAnswer, planTotals}
+use Rattle.restore_plan.proofs.PlanTable.{plan-ok, as-before}
+use Rattle.restore_plan.specs.Calls.{planAnswer, planTotals}
 use Rattle.planner.proofs.Planned.{shown-left}
 use borrow.Author.Needs.{needs}
 use Rattle.planner.proofs.plan.Statement.{statement}

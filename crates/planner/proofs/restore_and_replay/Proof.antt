@@ -6,8 +6,8 @@ use lib.ListN.{length, length-take}
 use lib.Seq.{length-take-le}
 use Rattle.lent.proofs.Lent.{put, untouched}
 use Rattle.accept.proofs.Accepted.{accepted-layout, well-formed}
-use Rattle.restore.proofs.PlanTable.{as-before}
-use Rattle.replay.specs.Calls.{restoreRefusal}
+use Rattle.restore_plan.proofs.PlanTable.{as-before}
+use Rattle.replay_machine.specs.Calls.{restoreRefusal}
 use Rattle.planner.proofs.Restored.{RestoreLent, restore-ok, front-words, front-state, front-positions, front-steps, restored}
 use borrow.Author.Needs.{needs}
 use Rattle.planner.proofs.restore_and_replay.Statement.{statement}

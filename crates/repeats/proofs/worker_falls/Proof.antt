@@ -8,7 +8,8 @@ use Rattle.ranges.proofs.Any.{Sought, sought-none, sought-more, sought-end}
 use Rattle.lent.specs.Lent.{at}
 use Rattle.log.specs.Limits.{maxWorkers}
 use Rattle.log.specs.Layout.{workersOf}
-use Rattle.log.specs.Model.{eventCount, eventOf, isReceive}
+use Rattle.log.specs.Model.{eventCount, eventOf}
+use Rattle.records.specs.Event.{isReceive}
 use Rattle.log.proofs.Read.{next-within, next-event}
 use Rattle.repeats.specs.Inner.Again.{again, workerAgain}
 use Rattle.repeats.proofs.Again.{Rising, rising-none, rising-next, rising-more, peer-few}

@@ -4,7 +4,8 @@ use mathlib.Core.Path.{_≡_}
 use mathlib.Core.Bool.{Bool, true}
 use Prim.Native.Nat.{ℕ, _+_, _<_, _≤_}
 use Rattle.ranges.specs.Fold.{anyBelow}
-use Rattle.log.specs.Model.{Workers, workerCount, eventCount, eventOf, isReceive}
+use Rattle.log.specs.Model.{Workers, workerCount, eventCount, eventOf}
+use Rattle.records.specs.Event.{isReceive}
 use Rattle.repeats.specs.Repeats.{sameSend}
 
 -- what the tests 7 and 9 leave of the events of a log

@@ -9,8 +9,9 @@ use lib.Dec.{eqb, leb, ltb}
 use lib.ListN.{length, set}
 use Rattle.ranges.specs.Fold.{anyBelow, sumBelow}
 use Rattle.lent.specs.Lent.{at}
-use Rattle.log.specs.declared.Event.{Event}
-use Rattle.log.specs.Model.{Workers, workerCount, eventCount, eventOf, isReceive, received}
+use Rattle.records.specs.declared.Event.{Event}
+use Rattle.log.specs.Model.{Workers, workerCount, eventCount, eventOf}
+use Rattle.records.specs.Event.{isReceive, received}
 use Rattle.repeats.specs.Inner.Again.{again}
 
 -- the bits of a word, the words of the two tables, and the bits of a table

@@ -7,8 +7,8 @@ use lib.ListN.{length, getD}
 use Rattle.log.specs.Limits.{maxEvents}
 use Rattle.cost.specs.Words.{startIn}
 use Rattle.accept.proofs.Accepted.{well-formed}
-use Rattle.replay.specs.Machine.{movedBy, moved}
-use Rattle.replay.proofs.Steps.{done-ready}
+use Rattle.replay_machine.specs.Machine.{movedBy, moved}
+use Rattle.replay_machine.proofs.Steps.{done-ready}
 use borrow.Author.Needs.{needs}
 use Rattle.replay.proofs.advance.Statement.{statement}
 use Rattle.replay.proofs.advance.Tie as tie

@@ -8,7 +8,7 @@ use Rattle.accept.proofs.Accepted.{accepted-layout, well-formed}
 use Rattle.causality.proofs.Peers.{peer-within}
 use Rattle.cost.specs.Words.{cutIn}
 use Rattle.cost.proofs.Held.{cuts-at, starts-in-at}
-use Rattle.replay.specs.Machine.{answerOf}
+use Rattle.replay_machine.specs.Machine.{answerOf}
 use borrow.Author.Needs.{needs}
 use Rattle.replay.proofs.answer.Statement.{statement}
 use Rattle.replay.proofs.answer.Tie as tie

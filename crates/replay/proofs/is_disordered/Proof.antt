@@ -3,7 +3,7 @@ use borrow.Author.Tests.{le-leb, lt-leb}
 use Rattle.accept.proofs.Accepted.{accepted-layout}
 use Rattle.ranges.proofs.Order.{ltb-not-leb}
 use Rattle.cost.specs.Words.{startIn, cutIn}
-use Rattle.replay.specs.Calls.{disordered}
+use Rattle.replay_machine.specs.Calls.{disordered}
 use borrow.Author.Needs.{needs}
 use Rattle.replay.proofs.is_disordered.Statement.{statement}
 use Rattle.replay.proofs.is_disordered.Tie as tie

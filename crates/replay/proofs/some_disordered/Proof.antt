@@ -8,7 +8,7 @@ use Rattle.ranges.specs.Fold.{anyBelow}
 use Rattle.ranges.proofs.Any.{any-none, any-more, any-found}
 use Rattle.log.specs.Layout.{workersOf}
 use Rattle.accept.proofs.Accepted.{accepted-layout}
-use Rattle.replay.specs.Calls.{disordered}
+use Rattle.replay_machine.specs.Calls.{disordered}
 use Rattle.replay.proofs.some_disordered.Statement.{statement}
 use Rattle.replay.proofs.some_disordered.Tie as tie
 

@@ -7,7 +7,7 @@ use Rattle.lent.proofs.Lent.{or-else-zero, or-else-first, or-else-second, words
 use Rattle.log.specs.Layout.{workersOf}
 use Rattle.log.specs.Model.{workerCount}
 use Rattle.accept.proofs.Accepted.{accepted-layout}
-use Rattle.replay.specs.Calls.{orderRefusal, stateRefusal}
+use Rattle.replay_machine.specs.Calls.{orderRefusal, stateRefusal}
 use borrow.Author.Needs.{needs}
 use Rattle.replay.proofs.state_refusal.Statement.{statement}
 use Rattle.replay.proofs.state_refusal.Tie as tie

@@ -1,6 +1,6 @@
 -- `replay::step` meets its contract. Assumes nothing.
 use mathlib.Core.Path.{sym}
-use Rattle.replay.proofs.Call.{step-ok, step-refused, step-answer, step-positions}
+use Rattle.replay_machine.proofs.Call.{step-ok, step-refused, step-answer, step-positions}
 use borrow.Author.Needs.{needs}
 use Rattle.replay.proofs.step.Statement.{statement}
 use Rattle.replay.proofs.step.Tie as tie

@@ -3,7 +3,7 @@ use mathlib.Core.Path.{sym, _∙_}
 use borrow.Author.Tests.{eq-eqb, ne-eqb}
 use Rattle.lent.specs.Lent.{orElse}
 use Rattle.accept.proofs.Accepted.{accepted-layout}
-use Rattle.replay.specs.Calls.{stepRefusal}
+use Rattle.replay_machine.specs.Calls.{stepRefusal}
 use borrow.Author.Needs.{needs}
 use Rattle.replay.proofs.step_refusal.Statement.{statement}
 use Rattle.replay.proofs.step_refusal.Tie as tie

@@ -4,7 +4,8 @@ use native.Mathlib.Omega.{arith}
 use lib.Seq.{length-take-le, take-at}
 use Rattle.accept.proofs.Accepted.{accepted-layout}
 use Rattle.cost.specs.Words.{cutsIn}
-use Rattle.restore.proofs.Written.{cut-over, lower-isCut}
+use Rattle.restore.proofs.Spreading.{cut-over}
+use Rattle.restore_plan.proofs.Written.{lower-isCut}
 use borrow.Author.Needs.{needs}
 use Rattle.restore.proofs.cut_words.Statement.{statement}
 use Rattle.restore.proofs.cut_words.Tie as tie

@@ -7,10 +7,10 @@ use lib.ListN.{length-take}
 use lib.Seq.{length-take-le}
 use Rattle.accept.proofs.Accepted.{accepted-layout, well-formed}
 use Rattle.lent.proofs.Lent.{written, untouched}
-use Rattle.restore.specs.Calls.{foundPlan, planAnswer}
-use Rattle.restore.proofs.Written.{plan-long}
-use Rattle.restore.proofs.Floor.{floor-left}
-use Rattle.restore.proofs.PlanTable.{plan-ok}
+use Rattle.restore_plan.specs.Calls.{foundPlan, planAnswer}
+use Rattle.restore_plan.proofs.Written.{plan-long}
+use Rattle.restore_plan.proofs.Floor.{floor-left}
+use Rattle.restore_plan.proofs.PlanTable.{plan-ok}
 use borrow.Author.Needs.{needs}
 use Rattle.restore.proofs.plan.Statement.{statement}
 use Rattle.restore.proofs.plan.Tie as tie

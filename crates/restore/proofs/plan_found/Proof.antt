@@ -3,9 +3,9 @@ use mathlib.Core.Path.{sym, _∙_, ap}
 use native.Mathlib.Omega.{arith}
 use lib.Seq.{length-take-le}
 use Rattle.accept.proofs.Accepted.{accepted-layout, well-formed}
-use Rattle.restore.specs.Plan.{planWords}
-use Rattle.restore.specs.Calls.{foundPlan}
-use Rattle.restore.proofs.Written.{plan-cuts, plan-starts-in, lower-isCut, lower-held}
+use Rattle.restore_plan.specs.Plan.{planWords}
+use Rattle.restore_plan.specs.Calls.{foundPlan}
+use Rattle.restore_plan.proofs.Written.{plan-cuts, plan-starts-in, lower-isCut, lower-held}
 use borrow.Author.Needs.{needs}
 use Rattle.restore.proofs.plan_found.Statement.{statement}
 use Rattle.restore.proofs.plan_found.Tie as tie

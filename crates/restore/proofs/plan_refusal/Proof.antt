@@ -1,6 +1,6 @@
 -- `restore::plan_refusal` meets its contract. Assumes nothing.
 use borrow.Author.Needs.{needs}
-use Rattle.restore.specs.Calls.{planRefusal}
+use Rattle.restore_plan.specs.Calls.{planRefusal}
 use Rattle.restore.proofs.plan_refusal.Statement.{statement}
 use Rattle.restore.proofs.plan_refusal.Tie as tie
 

@@ -1,7 +1,7 @@
 -- `restore::spread` meets its contract. Assumes nothing.
 use mathlib.Core.Path.{sym, _∙_}
 use native.Mathlib.Omega.{arith}
-use Rattle.restore.proofs.Written.{Spread, spread-none, spread-more, spread-all}
+use Rattle.restore.proofs.Spreading.{Spread, spread-none, spread-more, spread-all}
 use Rattle.restore.proofs.spread.Statement.{statement}
 use Rattle.restore.proofs.spread.Tie as tie
 

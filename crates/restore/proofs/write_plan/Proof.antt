@@ -2,7 +2,7 @@
 use native.Mathlib.Omega.{arith}
 use lib.ListN.{length-set}
 use Rattle.lent.proofs.Lent.{storeEach, stored-words}
-use Rattle.restore.specs.Calls.{planTotals}
+use Rattle.restore_plan.specs.Calls.{planTotals}
 use borrow.Author.Needs.{needs}
 use Rattle.restore.proofs.write_plan.Statement.{statement}
 use Rattle.restore.proofs.write_plan.Tie as tie

@@ -5,7 +5,7 @@ use native.Mathlib.Omega.{arith}
 use Rattle.accept.proofs.Accepted.{accepted-layout, well-formed}
 use Rattle.lent.proofs.Lent.{written, untouched}
 use Rattle.upper_line.proofs.UpperLine.{upper-is}
-use Rattle.causality.proofs.Allowed.{line-ok}
+use Rattle.refusals.proofs.Allowed.{line-ok}
 use borrow.Author.Needs.{needs}
 use Rattle.upper_line.proofs.upper_line.Statement.{statement}
 use Rattle.upper_line.proofs.upper_line.Tie as tie

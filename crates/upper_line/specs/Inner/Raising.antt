@@ -6,7 +6,8 @@ use mathlib.Core.Bool.{Bool, false, _&&_, _||_}
 use mathlib.Core.List.{List}
 use Prim.Native.Nat.{ℕ, _+_, _<_, _≤_}
 use lib.Dec.{eqb, ltb}
-use Rattle.log.specs.Model.{Workers, eventOf, isReceive}
+use Rattle.log.specs.Model.{Workers, eventOf}
+use Rattle.records.specs.Event.{isReceive}
 use Rattle.causality.specs.Happened.{HappenedBefore}
 use Rattle.lent.specs.Lent.{at}
 use Rattle.causality.specs.Cut.{IsCut, Within}

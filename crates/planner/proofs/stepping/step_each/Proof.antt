@@ -2,14 +2,13 @@
 use mathlib.Core.Path.{_≡_, refl, _∙_}
 use Prim.Native.Nat.{_+_, _-_, _*_}
 use native.Mathlib.Omega.{arith}
-use borrow.Author.Needs.{scaled-fits}
+use borrow.Author.Needs.{scaled-fits, needs}
 use lib.ListN.{length, length-take, length-drop}
 use Rattle.log.specs.Layout.{workersOf}
 use Rattle.accept.proofs.Accepted.{well-formed}
-use Rattle.replay.specs.Machine.{stepWords}
+use Rattle.replay_machine.specs.Machine.{stepWords}
 use Rattle.replay.proofs.Storing.{Storing, storing-begin, storing-end}
 use Rattle.planner.proofs.StepWords.{next-place, step-wide, step-room, step-stored, all-stored}
-use borrow.Author.Needs.{needs}
 use Rattle.planner.proofs.stepping.step_each.Statement.{statement}
 use Rattle.planner.proofs.stepping.step_each.Tie as tie
 

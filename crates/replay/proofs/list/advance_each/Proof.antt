@@ -2,12 +2,11 @@
 use mathlib.Core.Path.{_≡_, refl}
 use Prim.Native.Nat.{_-_, _*_}
 use native.Mathlib.Omega.{arith}
-use borrow.Author.Needs.{scaled-fits}
+use borrow.Author.Needs.{scaled-fits, needs}
 use lib.ListN.{length}
 use Rattle.log.specs.Layout.{workersOf}
-use Rattle.replay.specs.Machine.{answerWord}
+use Rattle.replay_machine.specs.Machine.{answerWord}
 use Rattle.replay.proofs.Storing.{Storing, storing-begin, answer-stored, storing-end}
-use borrow.Author.Needs.{needs}
 use Rattle.replay.proofs.list.advance_each.Statement.{statement}
 use Rattle.replay.proofs.list.advance_each.Tie as tie
 

@@ -1,7 +1,7 @@
 -- `replay::list::restore_refusal` meets its contract. Assumes nothing.
 use mathlib.Core.Path.{sym, _∙_}
-use Rattle.restore.proofs.PlanTable.{plan-refused-log}
-use Rattle.replay.specs.Calls.{restoreRefusal}
+use Rattle.restore_plan.proofs.PlanTable.{plan-refused-log}
+use Rattle.replay_machine.specs.Calls.{restoreRefusal}
 use borrow.Author.Needs.{needs}
 use Rattle.replay.proofs.list.restore_refusal.Statement.{statement}
 use Rattle.replay.proofs.list.restore_refusal.Tie as tie

@@ -1,6 +1,6 @@
 -- `replay::list::room_refusal` meets its contract. Assumes nothing.
 use Rattle.accept.proofs.Accepted.{accepted-layout}
-use Rattle.replay.specs.Calls.{roomRefusal}
+use Rattle.replay_machine.specs.Calls.{roomRefusal}
 use Rattle.replay.proofs.Storing.{room-quotient}
 use borrow.Author.Needs.{needs}
 use Rattle.replay.proofs.list.room_refusal.Statement.{statement}

@@ -1,8 +1,8 @@
 -- `replay::list::steps` meets its contract. Assumes nothing.
 use mathlib.Core.Path.{refl, sym, _∙_}
 use Rattle.lent.proofs.Lent.{words-ok, written, whole, untouched}
-use Rattle.replay.proofs.Lists.{after-long}
-use Rattle.replay.proofs.Call.{steps-ok}
+use Rattle.replay_machine.proofs.Lists.{after-long}
+use Rattle.replay_machine.proofs.Call.{steps-ok}
 use Rattle.replay.proofs.Storing.{answers-length}
 use borrow.Author.Needs.{needs}
 use Rattle.replay.proofs.list.steps.Statement.{statement}

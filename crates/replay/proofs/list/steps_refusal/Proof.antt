@@ -2,7 +2,7 @@
 use mathlib.Core.Path.{sym, _∙_}
 use borrow.Author.Tests.{eq-eqb, ne-eqb}
 use Rattle.lent.specs.Lent.{orElse}
-use Rattle.replay.specs.Calls.{stepsRefusal}
+use Rattle.replay_machine.specs.Calls.{stepsRefusal}
 use borrow.Author.Needs.{needs}
 use Rattle.replay.proofs.list.steps_refusal.Statement.{statement}
 use Rattle.replay.proofs.list.steps_refusal.Tie as tie

@@ -1,0 +1,5 @@
+pub mod Forms
+pub mod Kind
+pub mod Mark
+pub mod Event
+pub mod Checkpoint

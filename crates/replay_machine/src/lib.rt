@@ -1,0 +1,1 @@
+// The replay machine and the record of demand 3: definitions and theorems alone.

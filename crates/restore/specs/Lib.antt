@@ -1,6 +1,0 @@
-pub mod Plan
-pub mod Calls
-pub mod Floor
-pub mod Shown
-pub mod AsBefore
-pub mod Inner

@@ -1,0 +1,4 @@
+pub mod Placed
+pub mod Settling
+pub mod Begun
+pub mod Finished
