@@ -164,7 +164,7 @@ pub larger-starts : (a b : List Checkpoint) (w : ℕ) → length a ≡ length b 
 larger-starts a b w same = rw (starts-at (larger a b) w, larger-at a b w same, starts-at a w, starts-at b w) (later-index (getD a w initial) (getD b w initial))
 
 module _ (log : Workers) (cut : List ℕ) where
-  -- "the initial state for every worker" is a choice
+  -- the initial state of every worker is a choice
   pub initial-choice : IsChoice log cut (replicate (workerCount log) initial)
   initial-choice =
       record {

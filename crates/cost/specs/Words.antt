@@ -12,6 +12,9 @@ cutIn words w = at words (3 * w)
 unfoldable pub startIn : List ℕ → ℕ → ℕ
 startIn words w = at words (3 * w + 1)
 
+unfoldable pub identifierIn : List ℕ → ℕ → ℕ
+identifierIn words w = at words (3 * w + 2)
+
 -- the cut and the starts that plan words give the workers
 unfoldable pub cutsIn : Workers → List ℕ → List ℕ
 cutsIn log words = tabulate (cutIn words) (workerCount log)

@@ -10,7 +10,7 @@ ghost use Rattle.log.specs.Layout.{workersOf};
 ghost use Rattle.log.specs.Model.{workerCount};
 ghost use Rattle.accept.specs.Refusal.{logRefusal};
 ghost use Rattle.unit_table.specs.Table.{tableOf, tableRefusal};
-ghost use Rattle.cost.specs.Words.{cutIn, startIn, cutsIn, startsIn};
+ghost use Rattle.cost.specs.Words.{cutIn, startIn, identifierIn, cutsIn, startsIn};
 ghost use Rattle.cost.specs.Cost.{eventsOf, workerUnits, unitsOf};
 ghost use Rattle.cost.specs.Inner.Held.{IsHeld};
 ghost use Rattle.cost.specs.Inner.Counted.{countedAs, countedUnits};
@@ -29,6 +29,14 @@ pub fn start_in(words: &[u32], w: usize) -> u32
     ensures answer { λ r. ⌜ r ≡ startIn (now (words .entry)) w ⌝ }
 {
     words[3 * w + 1]
+}
+
+// The identifier of worker w in plan words.
+pub fn identifier_in(words: &[u32], w: usize) -> u32
+    requires { ⌜ 3 * w + 3 ≤ length (now words) ⌝ }
+    ensures answer { λ r. ⌜ r ≡ identifierIn (now (words .entry)) w ⌝ }
+{
+    words[3 * w + 2]
 }
 
 // Puts each position at its worker's start in plan words.

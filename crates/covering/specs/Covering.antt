@@ -54,8 +54,8 @@ setStarts log t = tabulate (setIndex log t) (workerCount log)
 unfoldable pub coveringSet : Workers → ℕ → Bool
 coveringSet log t = not (anyBelow (withoutSet log t) (workerCount log)) && isStartable log (cutOfAll log) (setStarts log t)
 
--- what the test's answer, 1 or 0, tells: "An identifier covers exactly when every worker has that checkpoint and these checkpoints are
--- startable for the cut of all events"
+-- what the test's answer, 1 or 0, tells: an identifier covers exactly when every worker has that checkpoint and these checkpoints are
+-- startable for the cut of all events
 pub record CoversWhenStartable (log : Workers) (t answer : ℕ) : Type 0 where
   pub covers : (answer ≡ 1) ↔ ((number : ℕ → ℕ) × Covers log t number)
   pub startable : (answer ≡ 1) ↔ ((choice : List Checkpoint) × StartableSet log t choice)

@@ -81,7 +81,7 @@ fn is_lost(log: &[u8], starts: &[u32], w: usize, k: u32) -> bool
     loses_send(e, starts[e.peer as usize])
 }
 
-// Whether worker w has such an event.
+// Whether worker w has an event after its start that loses its send.
 fn worker_lost(log: &[u8], starts: &[u32], w: usize) -> bool
     requires { ⌜ (logRefusal (now log) ≡ 0) × (workerCount (workersOf (now log)) ≤ length (now starts)) ⌝ }
     ensures answer { λ r. ⌜ r ≡ workerLost (workersOf (now (log .entry))) (cutOfAll (workersOf (now (log .entry)))) (now (starts .entry)) w ⌝ }

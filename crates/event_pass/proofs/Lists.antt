@@ -15,7 +15,7 @@ use Rattle.lent.specs.Lent.{at}
 use Rattle.log.specs.Model.{Workers, eventCount, eventOf}
 use Rattle.record_tests.specs.Records.{anyFault, eventFault, recordFault}
 use Rattle.event_pass.specs.Inner.Message.{isNaming, names, ownFault}
-use Rattle.event_pass.specs.Inner.Blocks.{listedFault, IsListed, Lists}
+use Rattle.event_pass.specs.Inner.Blocks.{listedFault, NamesAnother, Lists}
 use Rattle.event_pass.proofs.Message.{passes, naming-decides, own-peer}
 
 module _ (log : Workers) (w first : ℕ) where
@@ -38,7 +38,7 @@ module _ (log : Workers) (w first : ℕ) where
     kept : (j : ℕ) → j < count → at (set list count k) j ≡ at list j
     kept j h = getD-set-other list count j k 0 (λ same. let no : ⊥ = omega arith in no)
 
-    each-before : (j : ℕ) → j < count → (first ≤ at (set list count k) j) × (at (set list count k) j < k + 1) × IsListed log w (at (set list count k) j)
+    each-before : (j : ℕ) → j < count → (first ≤ at (set list count k) j) × (at (set list count k) j < k + 1) × NamesAnother log w (at (set list count k) j)
     each-before j h = let old = before .each j h in rw (kept j h) (old .0, omega (arith, old .1), old .2)
 
     all-before : (x : ℕ) → first ≤ x → x < k → isNaming (eventOf log w (x + 1)) ≡ true → (j : ℕ) × (j < count) × (at (set list count k) j ≡ x)
@@ -56,7 +56,7 @@ module _ (log : Workers) (w first : ℕ) where
     lists-naming : isNaming (eventOf log w (k + 1)) ≡ true → Lists log w first (k + 1) (set list count k) (count + 1)
     lists-naming naming =
         let here = getD-set-same list count k 0 room in
-        let it : IsListed log w k = record { within = within; naming = naming; peer = own-peer log w k (eventOf log w (k + 1)) own } in
+        let it : NamesAnother log w k = record { within = within; naming = naming; peer = own-peer log w k (eventOf log w (k + 1)) own } in
         record {
           few = omega (arith, before .few);
           own = own-next;

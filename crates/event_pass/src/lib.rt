@@ -13,7 +13,7 @@ ghost use Rattle.log.specs.Model.{workerCount, eventCount};
 ghost use Rattle.log.specs.Layout.{workersOf};
 ghost use Rattle.record_tests.specs.Records.{recordFault, someRecord};
 ghost use Rattle.event_pass.specs.Inner.Message.{names, ownFault, namingFault};
-ghost use Rattle.event_pass.specs.Inner.Blocks.{blockSize, faultWithin, someWithin, listedFault, IsListed, Lists};
+ghost use Rattle.event_pass.specs.Inner.Blocks.{blockSize, faultWithin, someWithin, listedFault, NamesAnother, Lists};
 
 // 1 for an event that names another, else 0.
 fn names(e: Event) -> u32
@@ -125,7 +125,7 @@ fn list_naming(
 
 // Whether one of the first `count` listed events of worker w is no receive, or fails test 9 or 10.
 fn listed_fault(log: &[u8], w: usize, list: &[u32; BLOCK as usize], count: usize) -> bool
-    requires { ⌜ (layoutRefusal (now log) ≡ 0) × (count ≤ blockSize) × ((j : ℕ) → j < count → IsListed (workersOf (now log)) w (at (now list) j)) ⌝ }
+    requires { ⌜ (layoutRefusal (now log) ≡ 0) × (count ≤ blockSize) × ((j : ℕ) → j < count → NamesAnother (workersOf (now log)) w (at (now list) j)) ⌝ }
     ensures answer { λ r. ⌜ r ≡ anyBelow (listedFault (workersOf (now (log .entry))) w (now (list .entry))) count ⌝ }
 {
     let start = log::event_start(log, w);
@@ -158,7 +158,7 @@ fn events_fault(log: &[u8], w: usize, first: u32) -> bool
     listed_fault(log, w, &list, listed.count)
 }
 
-// The same for the block of every worker.
+// Whether an event of some worker, up to the end of its block from `first` on, fails one of the tests 7 to 10. None before `first` does.
 fn block_fault(log: &[u8], first: u32) -> bool
     requires { ⌜ (layoutRefusal (now log) ≡ 0) × (first ≤ maxEvents) × (someWithin first (workersOf (now log)) ≡ false) ⌝ }
     ensures answer { λ r. ⌜ r ≡ someWithin (first + blockSize) (workersOf (now (log .entry))) ⌝ }

@@ -12,7 +12,7 @@ use Rattle.records.specs.Event.{eventSize, eventRecord}
 use Rattle.records.specs.Checkpoint.{checkpointSize, checkpointRecord}
 use Rattle.log.specs.Model.{Log, Workers, Worker}
 
--- "Bytes 0-1: form. Bytes 2-3: worker count n. Bytes 4-7: length of the log in bytes"
+-- "Bytes 0-1: form, .. Bytes 2-3: worker count n, .. Bytes 4-7: length of the log in bytes"
 abbrev pub formField : List ℕ → ℕ
 formField s = le 2 s 0
 
@@ -34,7 +34,7 @@ field s w j = le 4 s (headerOf w + 4 * j)
 unfoldable pub entryOrZero : List ℕ → ℕ → ℕ → ℕ
 entryOrZero s w j = cond (leb (sizeField s) w) 0 (field s w j)
 
--- "event count, event offset, checkpoint count, checkpoint offset, role"
+-- "event count .., event offset, checkpoint count .., checkpoint offset, role"
 abbrev pub eventCountField : ℕ
 eventCountField = 0
 

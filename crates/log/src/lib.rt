@@ -219,7 +219,7 @@ fn part_of<'a>(s: Section<'a>, size: usize) -> &'a [u8]
     part_at(s.log, s.start, s.count, size)
 }
 
-// The same from the log and the numbers of the section: every record is read through this.
+// The part of the log that a section is, from the log and the numbers of the section: every record is read through this.
 fn section_part(log: &[u8], start: usize, count: usize, size: usize) -> &[u8]
     requires { ⌜ start + size * count ≤ length (now log) ⌝ }
     ensures answer { λ r. ⌜ now r ≡ section (now (log .entry)) start (size * count) ⌝ }

@@ -14,9 +14,8 @@ use lib.Seq.{getD-set-same}
 use Rattle.ranges.specs.Fold.{sweep}
 use Rattle.ranges.proofs.Store.{set-grows}
 use Rattle.ranges.proofs.Sweep.{sweep-keeps, sweep-same}
-use Rattle.log.specs.Model.{Workers, workerCount, eventOf}
+use Rattle.log.specs.Model.{Workers, workerCount, eventOf, IsEvent}
 use Rattle.accept.specs.WellFormed.{WellFormed}
-use Rattle.log.specs.Model.{IsEvent}
 use Rattle.causality.specs.Happened.{HappenedBefore}
 use Rattle.lent.specs.Lent.{at}
 use Rattle.causality.specs.Cut.{Within, component}
@@ -129,7 +128,7 @@ module _ (log : Workers) (ok : WellFormed log) where
       (λ up. up .1 go ∙ same k d (stored t k d) (happened-rises log ok (up .0 .happened)) (raised-ready i e k (t .cut) h r) ∙ sym (up .1 other))
       (turn-cases i e k t event r))
 
-  -- "any number above the event's stamp gives the same"
+  -- any depth above the event's stamp gives the same
   pub visit-depth : (depth other i e : ℕ) (s : Found) → IsEvent log i e → Ready log i e (s .cut) → eventOf log i e .stamp < depth → eventOf log i e .stamp < other
       → visit depth log i e s ≡ visit other log i e s
   unfolding visit

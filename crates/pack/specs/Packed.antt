@@ -45,7 +45,7 @@ module _ (log : Workers) where
   unfoldable pub startOf : ℕ → ℕ
   startOf w = headerOf (workerCount log) + sumBelow sectionsSize w
 
-  -- "event count, event offset, checkpoint count, checkpoint offset, role": an empty section stands where it would begin
+  -- "event count .., event offset, checkpoint count .., checkpoint offset, role": an empty section stands where it would begin
   unfoldable pub numbersOf : ℕ → List ℕ
   numbersOf w = eventCount log w ∷ startOf w ∷ checkpointCount log w ∷ (startOf w + eventSize * eventCount log w) ∷ roleOf log w ∷ []
 
@@ -57,7 +57,7 @@ module _ (log : Workers) where
   unfoldable pub packedLength : ℕ
   packedLength = startOf (workerCount log)
 
--- "Bytes 0-1: form. Bytes 2-3: worker count n. Bytes 4-7: length of the log in bytes"
+-- "Bytes 0-1: form, .. Bytes 2-3: worker count n, .. Bytes 4-7: length of the log in bytes"
 unfoldable pub fieldsOf : Log → List ℕ
 fieldsOf log = bytesOf 2 (log .form) ++ bytesOf 2 (workerCount (log .workers)) ++ bytesOf 4 (packedLength (log .workers))
 

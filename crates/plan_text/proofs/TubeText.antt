@@ -20,7 +20,7 @@ use Rattle.upper_line.specs.Upper.{happened, upperAt, upperLine}
 use Rattle.lower_cut.specs.Workers.{bitOf, workersWord}
 use Rattle.choice.specs.Choice.{mayChoose, losesSend}
 use Rattle.restore_plan.specs.Plan.{loses, workerLoses, someLoses, usable, indexIf, rolledBackAt, rolledBack, planStarts, standsAt, identifierOf, identifierAt, planWord, planWords}
-use Rattle.cost.specs.Words.{cutIn, startIn}
+use Rattle.cost.specs.Words.{cutIn, startIn, identifierIn}
 use Rattle.unit_table.specs.Table.{builtIn}
 use Rattle.cost.specs.Cost.{replayed, eventsOf, eventUnits, workerUnits, unitsOf}
 use Rattle.plan_text.specs.Text.{ascii, spelled, decimal, withNumber, fourNumbers, breakpointLine, processLine, processLines, foundText, textOf}
@@ -41,7 +41,7 @@ computed : foundText (tubeLog .workers) 0 2 ≡ tubeText
 unfolding anyBelow maxBelow sumBelow firstBelow lastBelow tabulate sweep workerCount worker roleOf eventCount eventOf checkpointCount checkpointOf
     isSend isUnlogged isLogged isReceive namedOf component turnIf turn visit visitAt beginning figure2 happened upperAt upperLine bitOf workersWord
     mayChoose losesSend loses workerLoses someLoses usable indexIf rolledBackAt rolledBack planStarts standsAt identifierOf identifierAt planWord planWords
-    cutIn startIn replayed eventsOf eventUnits workerUnits unitsOf builtIn spelled decimal withNumber fourNumbers breakpointLine processLine
+    cutIn startIn identifierIn replayed eventsOf eventUnits workerUnits unitsOf builtIn spelled decimal withNumber fourNumbers breakpointLine processLine
     processLines foundText foundCut foundPlan
 computed = refl
 

@@ -21,7 +21,7 @@ use Rattle.upper_line.specs.Upper.{upperLine}
 use Rattle.unit_table.specs.Table.{builtIn}
 use Rattle.restore_plan.specs.Calls.{foundPlan}
 use Rattle.restore_plan.specs.Plan.{planWords}
-use Rattle.cost.specs.Words.{cutIn, startIn}
+use Rattle.cost.specs.Words.{cutIn, startIn, identifierIn}
 use Rattle.plan_text.specs.Text.{ascii, spelled, decimal, withNumber, ended, refusedText, breakpointLine, fourNumbers, processLine, processLines, totalsLine, foundText, planText, textOf}
 use Rattle.plan_text.specs.Buffer.{Holds}
 use Rattle.plan_text.proofs.Enough.{few}
@@ -71,7 +71,7 @@ unfolding processLine
 process-few text role words upper w =
     let cut = cutIn words w in
     let start = startIn words w in
-    let identifier = at words (3 * w + 2) in
+    let identifier = identifierIn words w in
     let a = withNumber text (ascii "process ") w in
     let b = withNumber a (ascii " role ") role in
     omega

@@ -17,7 +17,7 @@ use Rattle.upper_line.specs.Upper.{upperLine}
 use Rattle.unit_table.specs.Table.{builtIn}
 use Rattle.restore_plan.specs.Calls.{foundPlan}
 use Rattle.restore_plan.specs.Plan.{planWords}
-use Rattle.cost.specs.Words.{cutIn, startIn}
+use Rattle.cost.specs.Words.{cutIn, startIn, identifierIn}
 
 -- the codes of a text's characters
 abbrev pub ascii : String → List ℕ
@@ -61,7 +61,7 @@ wordsOf text cut upper start identifier =
 -- "A process line gives a worker's number and role, its words of the lower cut and the upper line, its start and its identifier"
 unfoldable pub processLine : List ℕ → ℕ → List ℕ → List ℕ → ℕ → List ℕ
 processLine text role words upper w =
-    wordsOf (withNumber (withNumber text (ascii "process ") w) (ascii " role ") role) (cutIn words w) (at upper w) (startIn words w) (at words (3 * w + 2))
+    wordsOf (withNumber (withNumber text (ascii "process ") w) (ascii " role ") role) (cutIn words w) (at upper w) (startIn words w) (identifierIn words w)
 
 -- a text, then the process lines of the first k workers
 unfoldable pub processLines : List ℕ → Workers → List ℕ → List ℕ → ℕ → List ℕ

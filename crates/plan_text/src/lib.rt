@@ -142,9 +142,9 @@ fn put_process(
     requires { ⌜ (3 * w + 3 ≤ length (now words)) × (w < length (now upper)) ⌝ }
     ensures text { λ r. ⌜ Adds (now (out .entry)) at (now (out .exit)) r (λ text. processLine text role (now (words .entry)) (now (upper .entry)) w) ⌝ }
 {
-    let cut = words[3 * w];
-    let start = words[3 * w + 1];
-    let identifier = words[3 * w + 2];
+    let cut = cost::cut_in(words, w);
+    let start = cost::start_in(words, w);
+    let identifier = cost::identifier_in(words, w);
     let line = upper[w];
     let a = put_number(out, at, b"process ", w as u64);
     let b = put_word(out, a, b" role ", role);

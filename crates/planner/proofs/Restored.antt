@@ -20,7 +20,7 @@ use Rattle.cost.specs.Words.{startsIn}
 use Rattle.restore_plan.proofs.Written.{plan-long}
 use Rattle.restore_plan.proofs.PlanTable.{plan-ok}
 use Rattle.replay_machine.specs.Machine.{listed, stepWords}
-use Rattle.replay_machine.specs.Calls.{machineRun, machineAfter, roomRefusal, restoreRefusal}
+use Rattle.replay_machine.specs.Calls.{machineRun, machineAfter, othersRefusal, restoreRefusal}
 use Rattle.replay_machine.specs.Inner.State.{IsState}
 use Rattle.replay_machine.specs.Demand3.{Demand3}
 use Rattle.replay_machine.proofs.Demand.{starts-long, plan-held-starts, after-long, demand-3}
@@ -31,14 +31,14 @@ use Rattle.planner.proofs.StepWords.{step-wide}
 
 -- what the call may use where it is not refused; the call of `plan` is then not refused either
 pub record RestoreLent (s : List ℕ) (w e calls : ℕ) (table : List ℕ) (words scratch positions steps totals : ℕ) : Type 0 where
-  pub search : SearchLent s w e 3 words (roomRefusal (workersOf s) calls positions steps totals) scratch
+  pub search : SearchLent s w e 3 words (othersRefusal (workersOf s) calls positions steps totals) scratch
   pub planned : planRefusal (given s) w e table words (wordsRefusal totals 4) scratch ≡ 0
   pub placed : workerCount (workersOf s) ≤ positions
   pub stepped : calls * (workerCount (workersOf s) + 1) ≤ steps
 
 pub restore-ok : {s : List ℕ} {w e calls : ℕ} {table : List ℕ} {words scratch positions steps totals r : ℕ} → r ≡ restoreRefusal (given s) w e calls table words scratch positions steps totals → r ≡ 0
     → RestoreLent s w e calls table words scratch positions steps totals
-unfolding restoreRefusal roomRefusal
+unfolding restoreRefusal othersRefusal
 restore-ok {s} {w} {e} {calls} {table} {words} {scratch} {positions} {steps} {totals} found none =
     let n = workerCount (workersOf s) in
     let search = plan-ok found none .search in

@@ -29,7 +29,7 @@ ghost use Rattle.restore_plan.specs.Floor.{Floor};
 ghost use Rattle.restore_plan.specs.Shown.{Shown};
 ghost use Rattle.restore_plan.specs.AsBefore.{AsBefore};
 ghost use Rattle.replay_machine.specs.Machine.{listed, answerWord, stepWords};
-ghost use Rattle.replay_machine.specs.Calls.{stepAnswer, stepAfter, stepsRefusal, roomRefusal, restoreRefusal, machineRun, machineAfter};
+ghost use Rattle.replay_machine.specs.Calls.{stepAnswer, stepAfter, stepsRefusal, othersRefusal, restoreRefusal, machineRun, machineAfter};
 ghost use Rattle.replay_machine.specs.Demand3.{Demand3};
 ghost use Rattle.planner.specs.Answers.{AnsweredAlike};
 ghost use Rattle.planner.specs.Calls.{wordOf, plannedWords, plannedRun, plannedAfter};
@@ -263,7 +263,7 @@ pub extern "C" fn restore_and_replay(
     ensures floor { λ r. ⌜ (r ≡ 0 → Floor (workersOf (now (log .entry))) worker event
         (take (3 * workerCount (workersOf (now (log .entry)))) (now (words .exit)))) ⌝ }
     ensures before { λ r. ⌜ (now (table .entry) ≡ builtInWords → AsBefore (given (now (log .entry))) worker event
-        (length (now (words .entry))) (roomRefusal (workersOf (now (log .entry))) (length (now (workers .entry))) (length (now (positions .entry))) (length (now (steps .entry))) (length (now (totals .entry))))
+        (length (now (words .entry))) (othersRefusal (workersOf (now (log .entry))) (length (now (workers .entry))) (length (now (positions .entry))) (length (now (steps .entry))) (length (now (totals .entry))))
         (length (now (scratch .entry))) r (now (totals .entry)) (now (totals .exit))) ⌝ }
 {
     let refusal = replay::list::restore_refusal(

@@ -37,12 +37,12 @@ cutRefusal log words = cond (anyBelow (overCount log words) (workerCount log)) 1
 unfoldable pub breakpointRefusal : Given → ℕ → ℕ → ℕ
 breakpointRefusal log w e = orElse (log .refusal) (orElse (workerRefusal (log .workers) w) (eventRefusal (log .workers) w e))
 
--- these, then 14: of a call that writes `each` words for each worker into those lent; `others` is 14 where something else lent is too short
+-- the log's, then 12 to 14: of a call that writes `each` words for each worker into those lent; `others` is 14 where something else lent is too short
 unfoldable pub lineRefusal : Given → ℕ → ℕ → ℕ → ℕ → ℕ → ℕ
 lineRefusal log w e each lent others =
     orElse (breakpointRefusal log w e) (orElse (wordsRefusal lent (each * workerCount (log .workers))) others)
 
--- these, then 15: of one that is lent scratch too: the lower cut and the plan
+-- the log's, then 12 to 15: of a call that is lent scratch too, the lower cut and the plan
 unfoldable pub searchRefusal : Given → ℕ → ℕ → ℕ → ℕ → ℕ → ℕ → ℕ
 searchRefusal log w e each lent others scratch = orElse (lineRefusal log w e each lent others) (scratchRefusal (log .workers) scratch)
 

@@ -69,7 +69,7 @@ pub fn breakpoint_refusal(log: &[u8], worker: u32, event: u32) -> u32
     )
 }
 
-// These, then 14, of a call that writes `each` words for each worker into `words` lent ones; `others` is the refusal of what else is lent.
+// The log's refusals, then 12 to 14, of a call that writes `each` words for each worker into `words` lent ones; `others` is the refusal of what else is lent.
 pub fn line_refusal(
     log: &[u8],
     worker: u32,
@@ -88,7 +88,7 @@ pub fn line_refusal(
     lent::or_else(lent::words_refusal(words, needed), others)
 }
 
-// These, then 15, of such a call that is lent scratch too.
+// The log's refusals, then 12 to 15, of a call that is lent scratch too.
 pub fn search_refusal(
     log: &[u8],
     worker: u32,

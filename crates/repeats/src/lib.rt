@@ -50,7 +50,7 @@ fn worker_falls(log: &[u8], w: usize) -> bool
     false
 }
 
-// Whether some worker has such a receive.
+// Whether some worker has a receive that names a send not above the last one of its peer.
 fn some_falls(log: &[u8]) -> bool
     requires { ⌜ (layoutRefusal (now log) ≡ 0) × Messages (workersOf (now log)) ⌝ }
     ensures rises { λ r. ⌜ (r ≡ false → someAgain (workersOf (now (log .entry))) ≡ false) ⌝ }
@@ -124,7 +124,7 @@ fn mark_event(log: &[u8], firsts: &[u32], low: usize, e: Event, table: &mut [u32
     mark(table, place - low, records::received(e))
 }
 
-// The same for every event of worker w, up to one that receives what was marked before.
+// Marks what the events of worker w receive, up to one that receives what was marked before; whether there is one.
 fn mark_worker(log: &[u8], w: usize, firsts: &[u32], low: usize, table: &mut [u32]) -> bool
     requires { ⌜ (layoutRefusal (now log) ≡ 0) × Messages (workersOf (now log)) × Numbered (workersOf (now log)) (now firsts)
         × Marks (workersOf (now log)) low w 0 (now table) × (length (now table) ≤ manyWords) ⌝ }
@@ -144,7 +144,7 @@ fn mark_worker(log: &[u8], w: usize, firsts: &[u32], low: usize, table: &mut [u3
     false
 }
 
-// The same for every worker, in a table with no bit marked.
+// Marks what the events of all workers receive, in a table with no bit marked; whether some event receives what was marked before.
 fn mark_all(log: &[u8], firsts: &[u32], low: usize, table: &mut [u32]) -> bool
     requires { ⌜ (layoutRefusal (now log) ≡ 0) × Messages (workersOf (now log)) × Numbered (workersOf (now log)) (now firsts)
         × Marks (workersOf (now log)) low 0 0 (now table) × (length (now table) ≤ manyWords) ⌝ }
@@ -176,7 +176,7 @@ fn few_repeat(log: &[u8], firsts: &[u32], low: usize) -> bool
     mark_all(log, firsts, low, &mut table)
 }
 
-// The same of the large table.
+// Whether a send is received twice, of those that have a bit in the large table from number `low` on.
 fn many_repeat(log: &[u8], firsts: &[u32], low: usize) -> bool
     requires { ⌜ (layoutRefusal (now log) ≡ 0) × Messages (workersOf (now log)) × Numbered (workersOf (now log)) (now firsts) ⌝ }
     ensures answer { λ r. ⌜ r ≡ someAgainWithin (workersOf (now (log .entry))) low (low + wordBits * manyWords) ⌝ }

@@ -3,6 +3,8 @@
 pub mod list;
 
 use choice::loses_send;
+use cost::cut_in;
+use cost::start_in;
 use records::Event;
 ghost use mathlib.Core.Path.{_≡_};
 ghost use mathlib.Core.List.{List};
@@ -11,7 +13,6 @@ ghost use lib.ListN.{length};
 ghost use Rattle.ranges.specs.Fold.{anyBelow};
 ghost use Rattle.lent.specs.Lent.{at};
 ghost use Rattle.log.specs.Layout.{workersOf};
-ghost use Rattle.log.specs.Limits.{maxEvents};
 ghost use Rattle.log.specs.Model.{workerCount};
 ghost use Rattle.accept.specs.Refusal.{logRefusal, given};
 ghost use Rattle.cost.specs.Words.{startIn};
@@ -25,16 +26,16 @@ fn is_disordered(log: &[u8], words: &[u32], positions: &[u32], w: usize) -> bool
         × (workerCount (workersOf (now log)) ≤ length (now positions)) ⌝ }
     ensures answer { λ r. ⌜ r ≡ disordered (workersOf (now (log .entry))) (now (words .entry)) (now (positions .entry)) w ⌝ }
 {
-    if positions[w] < words[3 * w + 1] {
+    if positions[w] < start_in(words, w) {
         return true;
     }
-    if words[3 * w] < positions[w] {
+    if cut_in(words, w) < positions[w] {
         return true;
     }
-    log::event_count(log, w) < words[3 * w]
+    log::event_count(log, w) < cut_in(words, w)
 }
 
-// Whether some worker is.
+// Whether some worker is without start <= position <= cut <= count.
 fn some_disordered(log: &[u8], words: &[u32], positions: &[u32]) -> bool
     requires { ⌜ (logRefusal (now log) ≡ 0) × (3 * workerCount (workersOf (now log)) ≤ length (now words)) × (workerCount (workersOf (now log)) ≤ length (now positions)) ⌝ }
     ensures answer { λ r. ⌜ r ≡ anyBelow (disordered (workersOf (now (log .entry))) (now (words .entry)) (now (positions .entry))) (workerCount (workersOf (now (log .entry)))) ⌝ }
@@ -90,7 +91,7 @@ fn event_answer(words: &[u32], positions: &[u32], e: Event) -> u32
     if positions[peer] < records::unlogged_send(e, 0) {
         return 22;
     }
-    if loses_send(e, words[3 * peer + 1]) {
+    if loses_send(e, start_in(words, peer)) {
         return 23;
     }
     0
@@ -105,21 +106,13 @@ fn answer(log: &[u8], words: &[u32], positions: &[u32], w: usize) -> u32
         return 12;
     }
     let position = positions[w];
-    if words[3 * w] <= position {
+    if cut_in(words, w) <= position {
         return 21;
     }
     event_answer(words, positions, log::event_at(log, w, position + 1))
 }
 
-// The position of worker w after a done step from a position at or after its start.
-fn next_position(words: &[u32], positions: &[u32], w: usize) -> u32
-    requires { ⌜ (w < length (now positions)) × (3 * w + 3 ≤ length (now words)) × (at (now words) (3 * w + 1) ≤ at (now positions) w) × (at (now positions) w ≤ maxEvents) ⌝ }
-    ensures answer { λ r. ⌜ r ≡ at (now (positions .entry)) w + 1 ⌝ }
-{
-    positions[w] + 1
-}
-
-// Such a step: its answer, and the position word of a done one.
+// A step of worker w over a state that was tested: its answer, and the position word of a done one.
 fn advance(log: &[u8], words: &[u32], positions: &mut [u32], w: usize) -> u32
     requires { ⌜ (logRefusal (now log) ≡ 0) × IsState (workersOf (now log)) (now words) (now positions) ⌝ }
     ensures answer { λ r. ⌜ r ≡ machineAnswer (workersOf (now (log .entry))) (now (words .entry)) (now (positions .entry)) w ⌝ }
@@ -127,7 +120,7 @@ fn advance(log: &[u8], words: &[u32], positions: &mut [u32], w: usize) -> u32
 {
     let refusal = answer(log, words, positions, w);
     if refusal == 0 {
-        positions[w] = next_position(words, positions, w);
+        positions[w] += 1;
     }
     refusal
 }

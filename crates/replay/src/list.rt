@@ -8,7 +8,7 @@ ghost use Rattle.lent.specs.Lent.{wordsRefusal, unlessRefused};
 ghost use Rattle.log.specs.Layout.{workersOf};
 ghost use Rattle.accept.specs.Refusal.{logRefusal, given};
 ghost use Rattle.replay_machine.specs.Machine.{listed, answerWord};
-ghost use Rattle.replay_machine.specs.Calls.{stepsRefusal, roomRefusal, restoreRefusal, machineRun, machineAfter};
+ghost use Rattle.replay_machine.specs.Calls.{stepsRefusal, othersRefusal, restoreRefusal, machineRun, machineAfter};
 ghost use Rattle.replay_machine.specs.Inner.State.{IsState};
 
 // The log's refusals, then 14 and 16, of a list of steps.
@@ -68,9 +68,9 @@ pub fn steps(
 
 // Refusal 14 for the totals, the positions and the words of the steps. Whether there are words for all steps is tested by a quotient, so
 // that no product wraps.
-fn room_refusal(log: &[u8], calls: usize, positions: usize, steps: usize, totals: usize) -> u32
+fn others_refusal(log: &[u8], calls: usize, positions: usize, steps: usize, totals: usize) -> u32
     requires { ⌜ logRefusal (now log) ≡ 0 ⌝ }
-    ensures answer { λ r. ⌜ r ≡ roomRefusal (workersOf (now (log .entry))) calls positions steps totals ⌝ }
+    ensures answer { λ r. ⌜ r ≡ othersRefusal (workersOf (now (log .entry))) calls positions steps totals ⌝ }
 {
     let n = log::worker_count(log);
     let placed = lent::words_refusal(positions, n);
@@ -100,6 +100,6 @@ pub fn restore_refusal(
     if refusal != 0 {
         return refusal;
     }
-    let others = room_refusal(log, calls, positions, steps, totals);
+    let others = others_refusal(log, calls, positions, steps, totals);
     restore::plan_refusal(log, worker, event, table, words, others, scratch)
 }

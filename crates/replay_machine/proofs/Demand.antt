@@ -18,7 +18,7 @@ use Rattle.lower_cut.proofs.LowerCut.{lower-is, lower-happened}
 use Rattle.lower_cut.proofs.VisitCount.{visits-few}
 use Rattle.choice.specs.Choice.{startsOf}
 use Rattle.restore_plan.specs.Plan.{planChoice, planStarts, planAt, planWords}
-use Rattle.cost.specs.Words.{cutsIn, startsIn}
+use Rattle.cost.specs.Words.{identifierIn, cutsIn, startsIn}
 use Rattle.restore_plan.specs.Calls.{foundPlan, planTotals}
 use Rattle.restore_plan.proofs.Written.{plan-cut, plan-shown, plan-cuts, plan-starts-in}
 use Rattle.restore_plan.proofs.Latest.{AreLatest, plan-latest, plan-starts, plan-starts-latest}
@@ -34,7 +34,7 @@ use Rattle.replay_machine.proofs.Progress.{progress}
 use Rattle.replay_machine.proofs.Works.{works-exactly, works-within}
 
 -- the third plan word of a worker is the identifier of the plan's checkpoint
-pub plan-identifier : (log : Workers) (cut : List ℕ) (w : ℕ) → w < workerCount log → at (planWords log cut) (3 * w + 2) ≡ getD (planChoice log cut) w initial .identifier
+pub plan-identifier : (log : Workers) (cut : List ℕ) (w : ℕ) → w < workerCount log → identifierIn (planWords log cut) w ≡ getD (planChoice log cut) w initial .identifier
 unfolding planChoice planAt
 plan-identifier log cut w h =
     plan-shown log cut w h ∙ sym (ap (λ (p : Checkpoint). p .identifier) (getD-tabulate (planAt log (planStarts log cut)) (workerCount log) w initial h))

@@ -66,11 +66,11 @@ calls log words positions (w ∷ workers) =
     record { answer = stepAnswer log words positions w; positions = stepAfter log words positions w } ∷ calls log words (stepAfter log words positions w) workers
 
 -- the plan with a list of step calls from the planned starts: 14 for the totals, the positions, and an answer and the positions of each call
-unfoldable pub roomRefusal : Workers → ℕ → ℕ → ℕ → ℕ → ℕ
-roomRefusal log calls positions steps totals =
+unfoldable pub othersRefusal : Workers → ℕ → ℕ → ℕ → ℕ → ℕ
+othersRefusal log calls positions steps totals =
     orElse (wordsRefusal totals 4) (orElse (wordsRefusal positions (workerCount log)) (wordsRefusal steps (calls * (workerCount log + 1))))
 
 -- the plan's refusals, with these
 unfoldable pub restoreRefusal : Given → ℕ → ℕ → ℕ → List ℕ → ℕ → ℕ → ℕ → ℕ → ℕ → ℕ
 restoreRefusal log w e calls table words scratch positions steps totals =
-    planRefusal log w e table words (roomRefusal (log .workers) calls positions steps totals) scratch
+    planRefusal log w e table words (othersRefusal (log .workers) calls positions steps totals) scratch

@@ -14,7 +14,7 @@ use Rattle.causality.specs.Cut.{Within, receivesWithin}
 use Rattle.lower_cut.specs.Figure2.{lowerCut}
 use Rattle.choice.specs.Choice.{IsChoice, startsOf}
 use Rattle.restore_plan.specs.Plan.{planChoice, planWords}
-use Rattle.cost.specs.Words.{cutIn, cutsIn, startsIn}
+use Rattle.cost.specs.Words.{cutIn, identifierIn, cutsIn, startsIn}
 use Rattle.unit_table.specs.Table.{Table}
 use Rattle.cost.specs.Cost.{eventsOf, unitsOf}
 use Rattle.restore_plan.specs.Calls.{foundPlan, planTotals}
@@ -44,7 +44,7 @@ pub record Demand3 (log : Workers) (i e : ℕ) (table : Table) (workers totals w
   -- 4: the plan "is a choice of checkpoints": word 3w + 1 is the index of worker w's checkpoint, and word 3w + 2 its identifier; it works
   pub chosen : IsChoice log (cutsIn log words) (choiceIn log words)
   pub starting : startsOf (choiceIn log words) ≡ startsIn log words
-  pub identified : (w : ℕ) → w < workerCount log → at words (3 * w + 2) ≡ getD (choiceIn log words) w initial .identifier
+  pub identified : (w : ℕ) → w < workerCount log → identifierIn words w ≡ getD (choiceIn log words) w initial .identifier
   pub works : Works log (cutsIn log words) (startsIn log words)
   -- 5: "For every list of step calls .. answers and positions are the machine's", ..
   pub stepped : steps ≡ listed stepWords (machineRun log words (startsIn log words) workers)

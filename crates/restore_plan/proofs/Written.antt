@@ -16,7 +16,7 @@ use Rattle.lower_cut.proofs.LowerCut.{lower-is}
 use Rattle.lent.specs.Lent.{at}
 use Rattle.causality.specs.Cut.{IsCut}
 use Rattle.restore_plan.specs.Plan.{identifierAt, planStarts, planWord, planWords}
-use Rattle.cost.specs.Words.{cutIn, startIn, cutsIn, startsIn}
+use Rattle.cost.specs.Words.{cutIn, startIn, identifierIn, cutsIn, startsIn}
 use Rattle.cost.specs.Inner.Held.{IsHeld}
 use Rattle.restore_plan.proofs.Latest.{plan-starts-latest}
 use Rattle.cost.proofs.Held.{cuts-are, starts-are}
@@ -40,8 +40,8 @@ module _ (log : Workers) (cut : List ℕ) where
       let q : (3 * w + 1) / 3 ≡ w = omega arith in
       getD-tabulate (planWord log cut (planStarts log cut)) (3 * workerCount log) (3 * w + 1) 0 (omega arith) ∙ rw (r, q)
 
-  pub plan-shown : (w : ℕ) → w < workerCount log → at (planWords log cut) (3 * w + 2) ≡ identifierAt log w (at (planStarts log cut) w)
-  unfolding planWords planWord
+  pub plan-shown : (w : ℕ) → w < workerCount log → identifierIn (planWords log cut) w ≡ identifierAt log w (at (planStarts log cut) w)
+  unfolding planWords identifierIn planWord
   plan-shown w h =
       let r : (3 * w + 2) % 3 ≡ 2 = omega arith in
       let q : (3 * w + 2) / 3 ≡ w = omega arith in

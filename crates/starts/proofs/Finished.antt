@@ -16,7 +16,7 @@ use Rattle.ranges.proofs.Tabulate.{length-tabulate, getD-tabulate, tabulate-lis
 use Rattle.log.specs.Model.{Workers, workerCount}
 use Rattle.lent.specs.Lent.{at}
 use Rattle.restore_plan.specs.Plan.{identifierOf, identifierAt, planStarts, planWord, planWords}
-use Rattle.cost.specs.Words.{cutIn, startIn}
+use Rattle.cost.specs.Words.{cutIn, startIn, identifierIn}
 use Rattle.starts.specs.Inner.Rollback.{numberIn, Settled, finishedWord, finished}
 use Rattle.cost.proofs.Held.{starts-in-at}
 
@@ -32,7 +32,7 @@ module _ (log : Workers) (words₀ : List ℕ) where
 
   -- a third word becomes the identifier
   third : (w : ℕ) → finishedWord log words₀ (3 * w + 2) ≡ identifierOf log w (numberIn words₀ w)
-  unfolding finishedWord numberIn
+  unfolding finishedWord identifierIn
   third w =
       let r : (3 * w + 2) % 3 ≡ 2 = omega arith in
       let q : (3 * w + 2) / 3 ≡ w = omega arith in
@@ -45,7 +45,7 @@ module _ (log : Workers) (words₀ : List ℕ) where
 
   -- of the workers that follow, the number is there still
   number-left : (words : List ℕ) (w : ℕ) → Finishing log words₀ words w → numberIn words w ≡ numberIn words₀ w
-  unfolding numberIn
+  unfolding identifierIn
   number-left words w f = f .left (3 * w + 2) (omega arith)
 
   pub finishing-more : (words : List ℕ) (w : ℕ) → 3 * w + 3 ≤ length words₀ → Finishing log words₀ words w
@@ -68,7 +68,7 @@ module _ (log : Workers) (words₀ : List ℕ) where
   finishing-all words wide f = tabulate-list (finishedWord log words₀) (3 * workerCount log) 0 words (f .wide ∙ wide) (f .done)
 
 plan-word : (log : Workers) (cut words : List ℕ) → Settled log cut words → (j : ℕ) → j < 3 * workerCount log → finishedWord log words j ≡ planWord log cut (planStarts log cut) j
-unfolding finishedWord planWord cutIn startIn numberIn
+unfolding finishedWord planWord cutIn startIn identifierIn
 plan-word log cut words s j h = go (j % 3) refl
   where
     w : ℕ

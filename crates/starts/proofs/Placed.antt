@@ -16,7 +16,7 @@ use Rattle.ranges.proofs.Bools.{and-true-left, and-true-right}
 use Rattle.log.specs.Model.{Workers, checkpointOf}
 use Rattle.log.proofs.Read.{checkpoint-initial}
 use Rattle.choice.specs.Choice.{mayChoose}
-use Rattle.cost.specs.Words.{cutIn, startIn}
+use Rattle.cost.specs.Words.{cutIn, startIn, identifierIn}
 use Rattle.choice.proofs.Choosable.{may-initial}
 use Rattle.starts.specs.Inner.Rollback.{numberIn, mayStartBelow, numberBelow, placed}
 
@@ -85,7 +85,7 @@ module _ (log : Workers) (words : List ℕ) (w c : ℕ) where
       ∙ getD-set-other words (3 * w + 1) (3 * v + 1) (checkpointOf log w c .index) 0 (λ e. other (omega (arith, e)))
 
   pub placed-number-other : (v : ℕ) → v ≢ w → numberIn (placed log words w c) v ≡ numberIn words v
-  unfolding placed numberIn
+  unfolding placed identifierIn
   placed-number-other v other =
       getD-set-other (set words (3 * w + 1) (checkpointOf log w c .index)) (3 * w + 2) (3 * v + 2) c 0 (λ e. other (omega (arith, e)))
       ∙ getD-set-other words (3 * w + 1) (3 * v + 2) (checkpointOf log w c .index) 0 (λ e. omega (arith, e))
@@ -99,6 +99,6 @@ module _ (log : Workers) (words : List ℕ) (w c : ℕ) where
         ∙ getD-set-same words (3 * w + 1) (checkpointOf log w c .index) 0 (omega arith)
 
     pub placed-number : numberIn (placed log words w c) w ≡ c
-    unfolding placed numberIn
+    unfolding placed identifierIn
     placed-number =
         getD-set-same (set words (3 * w + 1) (checkpointOf log w c .index)) (3 * w + 2) c 0 (simp length-set (omega arith))

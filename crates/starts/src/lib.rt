@@ -3,6 +3,7 @@
 use choice::loses_send;
 use choice::may_choose;
 use cost::cut_in;
+use cost::identifier_in;
 use cost::start_in;
 ghost use mathlib.Core.Path.{_≡_};
 ghost use Prim.Native.Nat.{_+_, _*_, _<_, _≤_};
@@ -22,7 +23,7 @@ fn number_in(words: &[u32], w: usize) -> u32
     requires { ⌜ 3 * w + 3 ≤ length (now words) ⌝ }
     ensures answer { λ r. ⌜ r ≡ numberIn (now (words .entry)) w ⌝ }
 {
-    words[3 * w + 2]
+    identifier_in(words, w)
 }
 
 // Whether checkpoint c of worker w may be chosen and has an index below `bound`.

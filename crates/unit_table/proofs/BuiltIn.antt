@@ -11,11 +11,11 @@ use Rattle.ranges.proofs.Any.{any-each}
 use Rattle.lent.specs.Lent.{at}
 use Rattle.records.specs.declared.Kind.{Kind}
 use Rattle.records.specs.Kind.{column}
-use Rattle.unit_table.specs.Table.{tableWords, rows, builtIn, tableOf, builtInWords, outside, tableRefusal}
+use Rattle.unit_table.specs.Table.{tableWords, rows, builtIn, tableOf, builtInWords, unitFault, tableRefusal}
 
 -- "The built-in table loads like any other"
 pub built-in-loads : tableRefusal builtInWords ≡ 0
-unfolding tableRefusal builtInWords anyBelow joinBelow outside
+unfolding tableRefusal builtInWords anyBelow joinBelow unitFault
 built-in-loads = refl
 
 -- whether a place of the built-in words differs from the table of roles and kinds

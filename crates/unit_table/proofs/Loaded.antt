@@ -16,14 +16,14 @@ use Rattle.lent.specs.Lent.{at}
 use Rattle.lent.proofs.Lent.{peel}
 use Rattle.records.specs.declared.Kind.{Kind}
 use Rattle.records.specs.Kind.{column}
-use Rattle.unit_table.specs.Table.{tableWords, maxUnits, tableOf, outside, tableRefusal}
+use Rattle.unit_table.specs.Table.{tableWords, maxUnits, tableOf, unitFault, tableRefusal}
 
 module _ (words : List ℕ) (loaded : tableRefusal words ≡ 0) where
-  tests : (not (eqb (length words) tableWords) ≡ false) × (anyBelow (outside words) (length words) ≡ false)
+  tests : (not (eqb (length words) tableWords) ≡ false) × (anyBelow (unitFault words) (length words) ≡ false)
   unfolding tableRefusal
   tests =
       let short = not (eqb (length words) tableWords) in
-      let some = anyBelow (outside words) (length words) in
+      let some = anyBelow (unitFault words) (length words) in
       let none = peel (short || some) 26 0 loaded .0 in
       (or-false-left short some none, or-false-right short some none)
 
@@ -33,10 +33,10 @@ module _ (words : List ℕ) (loaded : tableRefusal words ≡ 0) where
 
   -- .. of at most 1,000, and past the last one there is 0
   word-bound : (k : ℕ) → at words k ≤ maxUnits
-  unfolding outside
+  unfolding unitFault
   word-bound k =
       ⊎-elim
-      (λ l. ltb-false maxUnits (at words k) (or-false-right (ltb (at words k) 1) (ltb maxUnits (at words k)) (any-each (outside words) (length words) (tests .1) k l)))
+      (λ l. ltb-false maxUnits (at words k) (or-false-right (ltb (at words k) 1) (ltb maxUnits (at words k)) (any-each (unitFault words) (length words) (tests .1) k l)))
       (λ l. rw (List·getD-eq-default words 0 l) (omega arith))
       (lt-or-le k (length words))
 

@@ -39,9 +39,9 @@ unfoldable pub builtInWords : List ℕ
 builtInWords = joinBelow (λ role. getD rows role []) 4
 
 -- "a word outside 1 to 1,000"
-unfoldable pub outside : List ℕ → ℕ → Bool
-outside words k = ltb (at words k) 1 || ltb maxUnits (at words k)
+unfoldable pub unitFault : List ℕ → ℕ → Bool
+unitFault words k = ltb (at words k) 1 || ltb maxUnits (at words k)
 
 -- 27: "other than 12 words or a word outside 1 to 1,000"
 unfoldable pub tableRefusal : List ℕ → ℕ
-tableRefusal words = cond (not (eqb (length words) tableWords) || anyBelow (outside words) (length words)) 27 0
+tableRefusal words = cond (not (eqb (length words) tableWords) || anyBelow (unitFault words) (length words)) 27 0

@@ -6,7 +6,7 @@ ghost use Prim.Native.Nat.{_<_};
 ghost use lib.ListN.{length};
 ghost use Rattle.ranges.specs.Fold.{anyBelow};
 ghost use Rattle.records.specs.Kind.{column};
-ghost use Rattle.unit_table.specs.Table.{tableWords, tableOf, builtInWords, outside, tableRefusal};
+ghost use Rattle.unit_table.specs.Table.{tableWords, tableOf, builtInWords, unitFault, tableRefusal};
 
 // The words of a unit table, the kinds that one of its rows has, and the least and the largest word.
 pub const TABLE_WORDS: usize = 12;
@@ -33,9 +33,9 @@ pub fn write_built_in(table: &mut [u32])
 }
 
 // Whether a word is outside what a unit table may have.
-fn is_outside(table: &[u32], k: usize) -> bool
+fn unit_fault(table: &[u32], k: usize) -> bool
     requires { ⌜ k < length (now table) ⌝ }
-    ensures answer { λ r. ⌜ r ≡ outside (now (table .entry)) k ⌝ }
+    ensures answer { λ r. ⌜ r ≡ unitFault (now (table .entry)) k ⌝ }
 {
     if table[k] < LEAST {
         return true;
@@ -43,13 +43,13 @@ fn is_outside(table: &[u32], k: usize) -> bool
     LARGEST < table[k]
 }
 
-// Whether some word is.
-fn some_outside(table: &[u32]) -> bool
-    ensures answer { λ r. ⌜ r ≡ anyBelow (outside (now (table .entry))) (length (now (table .entry))) ⌝ }
+// Whether some word is outside what a unit table may have.
+fn some_unit_fault(table: &[u32]) -> bool
+    ensures answer { λ r. ⌜ r ≡ anyBelow (unitFault (now (table .entry))) (length (now (table .entry))) ⌝ }
 {
     let mut k: usize = 0;
     while k < table.len() {
-        if is_outside(table, k) {
+        if unit_fault(table, k) {
             return true;
         }
         k += 1;
@@ -64,7 +64,7 @@ pub fn table_refusal(table: &[u32]) -> u32
     if table.len() != TABLE_WORDS {
         return 27;
     }
-    if some_outside(table) {
+    if some_unit_fault(table) {
         return 27;
     }
     0

@@ -8,7 +8,7 @@ use Rattle.log.specs.Layout.{workersOf}
 use Rattle.log.specs.Model.{eventOf}
 use Rattle.log.proofs.Read.{count-field, next-within, next-event}
 use Rattle.event_pass.specs.Inner.Message.{namingFault}
-use Rattle.event_pass.specs.Inner.Blocks.{listedFault, IsListed}
+use Rattle.event_pass.specs.Inner.Blocks.{listedFault, NamesAnother}
 use borrow.Author.Needs.{needs}
 use Rattle.event_pass.proofs.listed_fault.Statement.{statement}
 use Rattle.event_pass.proofs.listed_fault.Tie as tie
@@ -21,7 +21,7 @@ abbrev μ-loop : tie.MeasureT-loop
 
 -- the event that number j of the list stands for
 it : (c : tie.After-event-in-arg Inv-loop μ-loop)
-    → IsListed (workersOf (c .before .before .before .before .before .before .args .log .now)) (c .before .before .before .before .before .before .args .w)
+    → NamesAnother (workersOf (c .before .before .before .before .before .before .args .log .now)) (c .before .before .before .before .before .before .args .w)
     (at (c .before .before .before .before .before .before .args .list .now) (c .before .before .loop .j))
 it c = c .before .before .before .before .before .before .pre .2 _ (c .before .loop-test .taken)
 

@@ -28,7 +28,7 @@ unfoldable pub listedFault : Workers → ℕ → List ℕ → ℕ → Bool
 listedFault log w list j = namingFault log w (eventOf log w (at list j + 1))
 
 -- event k + 1 of worker w names another, and its peer is a worker
-pub record IsListed (log : Workers) (w k : ℕ) : Type 0 where
+pub record NamesAnother (log : Workers) (w k : ℕ) : Type 0 where
   pub within : k < eventCount log w
   pub naming : isNaming (eventOf log w (k + 1)) ≡ true
   pub peer : eventOf log w (k + 1) .peer < workerCount log
@@ -38,5 +38,5 @@ pub record IsListed (log : Workers) (w k : ℕ) : Type 0 where
 pub record Lists (log : Workers) (w first end : ℕ) (list : List ℕ) (count : ℕ) : Type 0 where
   pub few : first + count ≤ end
   pub own : (k : ℕ) → first ≤ k → k < end → ownFault log w (eventOf log w k .stamp) (eventOf log w (k + 1)) ≡ false
-  pub each : (j : ℕ) → j < count → (first ≤ at list j) × (at list j < end) × IsListed log w (at list j)
+  pub each : (j : ℕ) → j < count → (first ≤ at list j) × (at list j < end) × NamesAnother log w (at list j)
   pub all : (k : ℕ) → first ≤ k → k < end → isNaming (eventOf log w (k + 1)) ≡ true → (j : ℕ) × (j < count) × (at list j ≡ k)

@@ -6,7 +6,6 @@ use Rattle.log.specs.Layout.{workersOf}
 use Rattle.log.specs.Model.{workerCount}
 use Rattle.accept.proofs.Accepted.{accepted-layout, well-formed}
 use Rattle.causality.proofs.Peers.{peer-within}
-use Rattle.cost.specs.Words.{cutIn}
 use Rattle.cost.proofs.Held.{cuts-at, starts-in-at}
 use Rattle.replay_machine.specs.Machine.{answerOf}
 use borrow.Author.Needs.{needs}
@@ -23,9 +22,14 @@ returns c = rw (← c .before .worker-count .ensures .0, le-leb _ _ (c .if1 .tak
 worker : (c : tie.Else1) → c .before .before .before .before .before .args .w < workerCount (workersOf (c .before .before .before .before .before .args .log .now))
 worker c = rw (c .before .worker-count .ensures .0) at (c .if1 .left)
 
+cut-in-requires : tie.Need-cut-in-requires
+cut-in-requires c κs = search needs
+
 returns-2 : tie.Need-returns-2
-unfolding answerOf cutIn
-returns-2 c = rw (lt-leb _ _ (worker (c .before .before .before)), cuts-at _ _ _ (worker (c .before .before .before)), le-leb _ _ (c .if2 .taken))
+unfolding answerOf
+returns-2 c =
+    let mine = worker (c .before .before .before) in
+    rw (lt-leb _ _ mine, cuts-at _ _ _ mine, le-leb _ _ (rw (c .before .cut-in .ensures) at (c .if2 .taken)))
 
 add-event-at : tie.Need-add-event-at
 add-event-at c =
@@ -39,11 +43,10 @@ event-at-requires c κs = accepted-layout _ (c .before .before .before .before .
 
 -- the event's peer is one of the log's workers
 peer : (c : tie.After-event-at) → c .event-at .result .peer < workerCount (workersOf (c .before .before .before .before .before .before .before .before .before .args .log .now))
-unfolding cutIn
 peer c =
     let start = c .before .before .before .before .before .before .before .before .before in
     let order = start .pre .1 .ordered (start .args .w) (worker (c .before .before .before .before)) in
-    peer-within _ (start .pre .0) _ _ _ (c .event-at .ensures) (omega (arith, order, c .before .if2 .left))
+    peer-within _ (start .pre .0) _ _ _ (c .event-at .ensures) (omega (arith, order, c .before .before .cut-in .ensures, c .before .if2 .left))
 
 event-answer-requires : tie.Need-event-answer-requires
 event-answer-requires c κs =
@@ -52,25 +55,13 @@ event-answer-requires c κs =
     (omega (arith, start .pre .1 .placed), omega (arith, start .pre .1 .planned))
 
 returns-3 : tie.Need-returns-3
-unfolding answerOf cutIn
+unfolding answerOf
 returns-3 c =
     let mine = worker (c .before .before .before .before .before) in
-    rw (lt-leb _ _ mine, cuts-at _ _ _ mine, lt-leb _ _ (c .before .before .if2 .left), ← c .before .event-at .ensures)
-    (c .event-answer .ensures _ (starts-in-at _ _ _ (peer (c .before))))
+    let below = rw (c .before .before .before .cut-in .ensures) at (c .before .before .if2 .left) in
+    rw (lt-leb _ _ mine, cuts-at _ _ _ mine, lt-leb _ _ below, ← c .before .event-at .ensures) (c .event-answer .ensures _ (starts-in-at _ _ _ (peer (c .before))))
 
 pub answer-spec : {M : Type 1} → statement M
 answer-spec =
     tie.close
-    (tie.spec
-    worker-count-requires
-    returns
-    (λ c. search needs)
-    (λ c. search needs)
-    (λ c. search needs)
-    (λ c. search needs)
-    (λ c. search needs)
-    returns-2
-    add-event-at
-    event-at-requires
-    event-answer-requires
-    returns-3)
+    (tie.spec worker-count-requires returns (λ c. search needs) (λ c. search needs) cut-in-requires returns-2 add-event-at event-at-requires event-answer-requires returns-3)

@@ -1,7 +1,6 @@
 -- `replay::event_answer` meets its contract. Assumes nothing.
 use mathlib.Core.Path.{sym, _∙_}
 use mathlib.Core.Bool.{true, false}
-use Rattle.cost.specs.Words.{startIn}
 use Rattle.replay.proofs.Compared.{compared-waits, compared-come}
 use borrow.Author.Needs.{needs}
 use Rattle.replay.proofs.event_answer.Statement.{statement}
@@ -11,30 +10,16 @@ returns : tie.Need-returns
 returns c starts same = sym (compared-waits starts _ _ (rw (c .before .unlogged-send .ensures) at (c .if1 .taken)))
 
 returns-2 : tie.Need-returns-2
-unfolding startIn
 returns-2 c starts same =
     let come = rw (c .before .before .before .before .unlogged-send .ensures) at (c .before .before .before .if1 .left) in
-    sym (compared-come starts _ _ come true (rw same (sym (c .before .loses-send .ensures) ∙ c .if2 .taken)))
+    sym (compared-come starts _ _ come true (rw (same, ← c .before .before .start-in .ensures) (sym (c .before .loses-send .ensures) ∙ c .if2 .taken)))
 
 returns-3 : tie.Need-returns-3
-unfolding startIn
 returns-3 c starts same =
     let come = rw (c .before .before .before .before .unlogged-send .ensures) at (c .before .before .before .if1 .left) in
-    sym (compared-come starts _ _ come false (rw same (sym (c .before .loses-send .ensures) ∙ c .if2 .left)))
+    sym (compared-come starts _ _ come false (rw (same, ← c .before .before .start-in .ensures) (sym (c .before .loses-send .ensures) ∙ c .if2 .left)))
 
 pub event-answer-spec : {M : Type 1} → statement M
 event-answer-spec =
     tie.close
-    (tie.spec
-    (λ c. search needs)
-    (λ c. search needs)
-    (λ c. search needs)
-    (λ c κs. search needs)
-    returns
-    (λ c. search needs)
-    (λ c. search needs)
-    (λ c. search needs)
-    (λ c. search needs)
-    (λ c κs. search needs)
-    returns-2
-    returns-3)
+    (tie.spec (λ c. search needs) (λ c. search needs) (λ c. search needs) (λ c κs. search needs) returns (λ c κs. search needs) (λ c κs. search needs) returns-2 returns-3)

@@ -15,11 +15,11 @@ use Rattle.records.specs.Event.{isUnlogged}
 use Rattle.lent.specs.Lent.{at}
 use Rattle.choice.specs.Choice.{mayChoose, IsChoice, startsOf, Startable, losesSend}
 use Rattle.restore_plan.specs.Plan.{identifierOf, identifierAt, planStarts}
-use Rattle.cost.specs.Words.{cutIn, startIn, startsIn}
+use Rattle.cost.specs.Words.{cutIn, startIn, identifierIn, startsIn}
 
--- the third word of worker w
-unfoldable pub numberIn : List ℕ → ℕ → ℕ
-numberIn words w = at words (3 * w + 2)
+-- the number of worker w's checkpoint: it stands in the place of the identifier
+abbrev pub numberIn : List ℕ → ℕ → ℕ
+numberIn words w = identifierIn words w
 
 unfoldable pub mayStartBelow : Workers → ℕ → ℕ → ℕ → Bool
 mayStartBelow log w bound c = mayChoose log w c && ltb (checkpointOf log w c .index) bound

@@ -18,11 +18,11 @@ long c = omega (arith, c .if1 .left)
 
 returns-2 : tie.Need-returns-2
 unfolding tableRefusal
-returns-2 c = rw (eq-eqb _ _ (long (c .before .before)), ← c .before .some-outside .ensures, c .if2 .taken)
+returns-2 c = rw (eq-eqb _ _ (long (c .before .before)), ← c .before .some-unit-fault .ensures, c .if2 .taken)
 
 returns-3 : tie.Need-returns-3
 unfolding tableRefusal
-returns-3 c = rw (eq-eqb _ _ (long (c .before .before)), ← c .before .some-outside .ensures, c .if2 .left)
+returns-3 c = rw (eq-eqb _ _ (long (c .before .before)), ← c .before .some-unit-fault .ensures, c .if2 .left)
 
 pub table-refusal-spec : {M : Type 1} → statement M
 table-refusal-spec = tie.close (tie.spec returns (λ c κs. search needs) returns-2 returns-3)

@@ -12,13 +12,13 @@ returns c =
     let is = c .before .accept .ensures in
     is ∙ sym (plan-refused-log _ _ _ _ _ _ _ (λ e. c .if1 .taken (is ∙ e)))
 
-room-refusal-requires : tie.Need-room-refusal-requires
-room-refusal-requires c κs = sym (c .before .accept .ensures) ∙ c .if1 .left
+others-refusal-requires : tie.Need-others-refusal-requires
+others-refusal-requires c κs = sym (c .before .accept .ensures) ∙ c .if1 .left
 
 returns-2 : tie.Need-returns-2
 unfolding restoreRefusal
-returns-2 c = rw (← c .before .room-refusal .ensures) (c .plan-refusal .ensures)
+returns-2 c = rw (← c .before .others-refusal .ensures) (c .plan-refusal .ensures)
 
 pub restore-refusal-spec : {M : Type 1} → statement M
 restore-refusal-spec =
-    tie.close (tie.spec (λ c κs. search needs) returns room-refusal-requires (λ c κs. search needs) returns-2)
+    tie.close (tie.spec (λ c κs. search needs) returns others-refusal-requires (λ c κs. search needs) returns-2)

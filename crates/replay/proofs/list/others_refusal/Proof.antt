@@ -1,10 +1,10 @@
--- `replay::list::room_refusal` meets its contract. Assumes nothing.
+-- `replay::list::others_refusal` meets its contract. Assumes nothing.
 use Rattle.accept.proofs.Accepted.{accepted-layout}
-use Rattle.replay_machine.specs.Calls.{roomRefusal}
+use Rattle.replay_machine.specs.Calls.{othersRefusal}
 use Rattle.replay.proofs.Storing.{room-quotient}
 use borrow.Author.Needs.{needs}
-use Rattle.replay.proofs.list.room_refusal.Statement.{statement}
-use Rattle.replay.proofs.list.room_refusal.Tie as tie
+use Rattle.replay.proofs.list.others_refusal.Statement.{statement}
+use Rattle.replay.proofs.list.others_refusal.Tie as tie
 
 worker-count-requires : tie.Need-worker-count-requires
 worker-count-requires c κs = accepted-layout _ (c .before .pre)
@@ -16,7 +16,7 @@ or-else-requires-2 : tie.Need-or-else-requires-2
 or-else-requires-2 c κs = search needs
 
 returns : tie.Need-returns
-unfolding roomRefusal
+unfolding othersRefusal
 returns c =
     rw (
       ← c .before .before .words-refusal3 .ensures,
@@ -28,6 +28,6 @@ returns c =
     )
     (c .or-else2 .ensures)
 
-pub room-refusal-spec : {M : Type 1} → statement M
-room-refusal-spec =
+pub others-refusal-spec : {M : Type 1} → statement M
+others-refusal-spec =
     tie.close (tie.spec worker-count-requires (λ c κs. search needs) (λ c. search needs) (λ c. search needs) words-refusal-requires-2 (λ c κs. search needs) (λ c κs. search needs) or-else-requires-2 returns)
