@@ -118,3 +118,9 @@ twice s given =
 
     last : repeatFault (logOf s) ≡ true
     last = read (repeatFault (logOf s)) (sym (or-else-second (recordsRefusal (workersOf s)) (cond (repeatFault (logOf s)) 24 0) records-passed) ∙ content)
+
+-- both, of the number that a log is given
+pub told : (s : List ℕ) (number : ℕ) → number ≡ logRefusal s
+    → (number ≡ logRefusal s)
+    × ((number ≡ 0 → formField s ≡ secondForm → ReceivedOnce (workersOf s)) × (number ≡ 24 → (formField s ≡ secondForm) × ReceivedTwice (workersOf s)))
+told s number said = (said, (λ accepted form. once s (sym said ∙ accepted) form, λ refused. twice s (sym said ∙ refused)))

@@ -26,8 +26,8 @@ contentRefusal log = orElse (recordsRefusal (log .workers)) (cond (repeatFault l
 unfoldable pub logRefusal : List ℕ → ℕ
 logRefusal s = orElse (layoutRefusal s) (contentRefusal (logOf s))
 
--- what a call is given of a log: the number that refuses it, and its workers. Every answer is over this, so two accepted logs with equal
--- workers have the same answers.
+-- what a call is given of a log: the number that refuses it, and its workers. What a call answers is over this, so two accepted logs with
+-- equal workers get the same answers, from every call but packing, which keeps the form too.
 pub record Given : Type 0 where
   pub refusal : ℕ
   pub workers : Workers

@@ -2,7 +2,9 @@
 
 ghost use mathlib.Core.Path.{_≡_};
 ghost use Rattle.log.specs.Header.{layoutRefusal};
-ghost use Rattle.log.specs.Layout.{workersOf, logOf};
+ghost use Rattle.records.specs.Forms.{secondForm};
+ghost use Rattle.log.specs.Layout.{formField, workersOf, logOf};
+ghost use Rattle.repeats.specs.Repeats.{ReceivedOnce, ReceivedTwice};
 ghost use Rattle.accept.specs.Refusal.{eventsRefusal, recordsRefusal, contentRefusal, logRefusal};
 
 // Tests 7 to 10: the number of the first that fails, or 0.
@@ -61,6 +63,8 @@ fn content_refusal(log: &[u8]) -> u32
 // 0 for an accepted log, else the number that refuses it.
 pub fn accept(log: &[u8]) -> u32
     ensures answer { λ r. ⌜ r ≡ logRefusal (now (log .entry)) ⌝ }
+    ensures once { λ r. ⌜ (r ≡ 0 → formField (now (log .entry)) ≡ secondForm → ReceivedOnce (workersOf (now (log .entry)))) ⌝ }
+    ensures twice { λ r. ⌜ (r ≡ 24 → (formField (now (log .entry)) ≡ secondForm) × ReceivedTwice (workersOf (now (log .entry)))) ⌝ }
 {
     let refusal = log::layout_refusal(log);
     if refusal != 0 {

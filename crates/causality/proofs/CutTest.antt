@@ -1,5 +1,5 @@
 -- The cut test is right: of words that are a cut it says whether they are consistent. Assumes nothing.
-use mathlib.Core.Path.{_≡_, refl, sym, ap}
+use mathlib.Core.Path.{_≡_, refl, sym, _∙_, ap}
 use mathlib.Core.Logic.{⊎-elim, _↔_}
 use mathlib.Core.Bool.{Bool, true, false, not, _&&_}
 use mathlib.Core.List.{List}
@@ -7,17 +7,20 @@ use Prim.Native.Nat.{ℕ, _+_, _<_, _≤_}
 use native.Mathlib.Omega.{arith}
 use borrow.Author.Tests.{ltb-true, ltb-false, le-ltb, not-true}
 use lib.Dec.{ltb}
-use lib.ListN.{take, List·getD-eq-default}
-use lib.Seq.{getD-take}
+use lib.ListN.{length, take, List·getD-eq-default}
+use lib.Seq.{getD-take, length-take-le}
 use Rattle.ranges.specs.Fold.{anyBelow}
 use Rattle.ranges.proofs.Any.{any-each, any-every, any-same}
 use Rattle.ranges.proofs.Bools.{and-true-left, and-true-right}
 use Rattle.ranges.proofs.Order.{lt-or-le}
-use Rattle.log.specs.Model.{Workers, workerCount, eventOf}
+use Rattle.log.specs.Model.{Workers, workerCount, eventCount, eventOf}
 use Rattle.records.specs.Event.{isReceive}
 use Rattle.accept.specs.WellFormed.{WellFormed}
-use Rattle.lent.specs.Lent.{at}
+use Rattle.lent.specs.Lent.{at, wordOf}
+use Rattle.lent.proofs.Left.{word-yes}
 use Rattle.causality.specs.Cut.{IsCut, Consistent, lacks, workerLacks, isConsistent}
+use Rattle.refusals.specs.Refusals.{overCount}
+use Rattle.causality.specs.Calls.{TellsConsistent}
 
 -- a receive within the cut does not lack its send exactly when the send is within the cut
 pub lacks-false : (log : Workers) (cut : List ℕ) (w k : ℕ)
@@ -98,3 +101,26 @@ first-words log ok words = ap not (any-same (workerLacks log words) (workerLacks
 
     worker : (w : ℕ) → w < workerCount log → workerLacks log words w ≡ workerLacks log (take (workerCount log) words) w
     worker w h = worker-same log words (take (workerCount log) words) w (sym (same w h)) (event w)
+
+-- words that 16 does not refuse are a cut, in the first n of them
+words-cut : (log : Workers) (words : List ℕ) → workerCount log ≤ length words → anyBelow (overCount log words) (workerCount log) ≡ false
+    → IsCut log (take (workerCount log) words)
+unfolding overCount
+words-cut log words enough none =
+    let n = workerCount log in
+    let long = length-take-le n words enough in
+    record {
+      long = long;
+      within = λ w.
+          ⊎-elim
+          (λ inside. rw (getD-take n words w 0 inside) (ltb-false (eventCount log w) (at words w) (any-each (overCount log words) n none w inside)))
+          (λ past. let zero : at (take n words) w ≡ 0 = List·getD-eq-default (take n words) 0 (rw long past) in omega arith)
+          (lt-or-le w n);
+    }
+
+-- the word of the test's answer tells whether they are a consistent one
+pub tells-consistent : (log : Workers) (words : List ℕ) (b : Bool) → workerCount log ≤ length words → anyBelow (overCount log words) (workerCount log) ≡ false
+    → b ≡ isConsistent log (take (workerCount log) words) → TellsConsistent log words (wordOf b)
+tells-consistent log words b enough none test =
+    let said = cut-test log (take (workerCount log) words) (words-cut log words enough none) in
+    (λ e. said .0 (sym test ∙ word-yes b .0 e), λ good. word-yes b .1 (test ∙ said .1 good))

@@ -2,16 +2,17 @@
 
 ghost use mathlib.Core.Path.{_≡_};
 ghost use mathlib.Core.Bool.{false};
+ghost use mathlib.Core.List.{[], _∷_};
 ghost use Prim.Native.Nat.{_+_, _<_, _≤_};
 ghost use lib.ListN.{length, take, replicate};
 ghost use Rattle.ranges.specs.Fold.{anyBelow, firstFrom};
-ghost use Rattle.lent.specs.Lent.{at, unlessRefused};
+ghost use Rattle.lent.specs.Lent.{at, left, wordOf};
 ghost use Rattle.log.specs.Layout.{workersOf};
 ghost use Rattle.log.specs.Model.{workerCount, eventCount, eventOf};
 ghost use Rattle.accept.specs.Refusal.{logRefusal, given};
 ghost use Rattle.causality.specs.Cut.{vector, lacks, workerLacks, isConsistent};
-ghost use Rattle.refusals.specs.Refusals.{overCount, lineRefusal, testRefusal};
-ghost use Rattle.causality.specs.Calls.{yesUnless};
+ghost use Rattle.refusals.specs.Refusals.{overCount, testRefusal};
+ghost use Rattle.causality.specs.Calls.{yesUnless, vectorCall, TellsConsistent};
 ghost use Rattle.causality.specs.Inner.Row.{noted, namedRow};
 
 // What a test returns.
@@ -63,8 +64,7 @@ fn vector_into(log: &[u8], i: usize, event: u32, words: &mut [u32])
 
 // The dependency vector of an event: its refusal, or 0 with the vector in the first n words.
 pub fn vector(log: &[u8], worker: u32, event: u32, words: &mut [u32]) -> u32
-    ensures answer { λ r. ⌜ r ≡ lineRefusal (given (now (log .entry))) worker event 1 (length (now (words .entry))) 0 ⌝ }
-    ensures words { λ r. ⌜ now (words .exit) ≡ unlessRefused r (vector (workersOf (now (log .entry))) worker event) (now (words .entry)) ⌝ }
+    ensures left { λ r. ⌜ left r (now (words .exit) ∷ []) ≡ vectorCall (given (now (log .entry))) worker event (now (words .entry)) ⌝ }
 {
     let refusal = refusals::line_refusal(log, worker, event, 1, words.len(), 0);
     if refusal != 0 {
@@ -168,6 +168,7 @@ fn test_refusal(log: &[u8], words: &[u32], others: u32) -> u32
 pub fn cut_test(log: &[u8], words: &[u32], others: u32) -> Test
     ensures refused { λ r. ⌜ r .refusal ≡ testRefusal (given (now (log .entry))) (now (words .entry)) (length (now (words .entry))) others ⌝ }
     ensures answer { λ r. ⌜ r .yes ≡ yesUnless (r .refusal) (isConsistent (workersOf (now (log .entry))) (take (workerCount (workersOf (now (log .entry)))) (now (words .entry)))) ⌝ }
+    ensures exactly { λ r. ⌜ (r .refusal ≡ 0 → TellsConsistent (workersOf (now (log .entry))) (now (words .entry)) (wordOf (r .yes))) ⌝ }
 {
     let refusal = test_refusal(log, words, others);
     if refusal != 0 {

@@ -2,7 +2,7 @@
 -- of a worker with an identifier is one only.
 -- Assumes nothing.
 use mathlib.Core.Path.{_≡_, sym, _∙_, ap}
-use mathlib.Core.Bool.{true, false, not, false≢true}
+use mathlib.Core.Bool.{Bool, true, false, not, false≢true}
 use mathlib.Core.Logic.{⊎-elim, _↔_}
 use mathlib.Core.List.{List}
 use Prim.Native.Nat.{ℕ, _+_, _<_, _≤_}
@@ -24,7 +24,8 @@ use Rattle.records.specs.Event.{isReceive, isLogged, isUnlogged}
 use Rattle.log.proofs.Read.{worker-within, checkpoint-initial, count-past}
 use Rattle.records.proofs.EventKinds.{not-logged}
 use Rattle.accept.specs.WellFormed.{WellFormed}
-use Rattle.lent.specs.Lent.{at}
+use Rattle.lent.specs.Lent.{at, wordOf}
+use Rattle.lent.proofs.Left.{word-yes}
 use Rattle.causality.specs.Cut.{IsCut}
 use Rattle.choice.specs.Choice.{mayChoose, IsChoice, startsOf, Startable, isStartable}
 use Rattle.covering.specs.Covering.{isSet, Covers, cutOfAll, StartableSet, withoutSet, indexOf, setIndex, setStarts, coveringSet, CoversWhenStartable}
@@ -242,8 +243,9 @@ module _ (log : Workers) (t : ℕ) (ok : WellFormed log) where
   startable-set-iff = (λ e. choice-starts .1 (test-starts .0 e), λ c. test-starts .1 (choice-starts .0 c))
 
   -- both, of the test's answer
-  pub covers-when : (answer : ℕ) → (answer ≡ 1) ↔ (coveringSet log t ≡ true) → CoversWhenStartable log t answer
-  covers-when answer said =
+  pub covers-said : {b : Bool} → b ≡ coveringSet log t → CoversWhenStartable log t (wordOf b)
+  covers-said {b} test =
+      let said : (wordOf b ≡ 1) ↔ (coveringSet log t ≡ true) = rw (← test) (word-yes b) in
       record {
         covers = (λ e. covering-iff .0 (said .0 e), λ c. said .1 (covering-iff .1 c));
         startable = (λ e. startable-set-iff .0 (said .0 e), λ c. said .1 (startable-set-iff .1 c));

@@ -1,13 +1,14 @@
 -- A covering set has no withdrawn checkpoint, and its identifier has no mark. Assumes nothing.
 use mathlib.Core.Path.{_≡_, sym, _∙_}
-use mathlib.Core.Bool.{true, false}
-use mathlib.Core.Logic.{_↔_}
+use mathlib.Core.Bool.{Bool, true, false}
 use mathlib.Core.List.{List}
 use Prim.Native.Nat.{ℕ}
 use native.Mathlib.Omega.{arith}
 use borrow.Author.Tests.{leb-true}
 use lib.Dec.{leb}
 use Rattle.ranges.proofs.Bools.{and-true-left, and-true-right, never-true}
+use Rattle.lent.specs.Lent.{wordOf}
+use Rattle.lent.proofs.Left.{word-yes, word-no}
 use Rattle.records.specs.Forms.{marksWithdrawn}
 use Rattle.records.specs.Mark.{topBit, hasMark}
 use Rattle.log.specs.Model.{Workers}
@@ -44,7 +45,6 @@ marked-none s t ok marked =
     let no : ⊥ = omega arith in no)
 
 -- both, of the test's answer
-pub covers-none : (s : List ℕ) (t : ℕ) → WellFormed (workersOf s) → (answer : ℕ) → (answer ≡ 1) ↔ (coveringSet (workersOf s) t ≡ true)
-    → (coveringSet (workersOf s) t ≡ false → answer ≡ 0) → CoversNoneWithdrawn (logOf s) t answer
-covers-none s t ok answer said denied =
-    record { none = λ e. none-withdrawn (workersOf s) t ok (said .0 e); marked = λ m. denied (marked-none s t ok m) }
+pub none-said : (s : List ℕ) (t : ℕ) → WellFormed (workersOf s) → {b : Bool} → b ≡ coveringSet (workersOf s) t → CoversNoneWithdrawn (logOf s) t (wordOf b)
+none-said s t ok {b} test =
+    record { none = λ e. none-withdrawn (workersOf s) t ok (sym test ∙ word-yes b .0 e); marked = λ m. word-no b (test ∙ marked-none s t ok m) }

@@ -1,3 +1,4 @@
 pub mod Covering
+pub mod Calls
 pub mod Withdrawn
 pub mod Inner

@@ -9,13 +9,14 @@ ghost use mathlib.Core.List.{_++_};
 ghost use Prim.Native.Nat.{_<_, _≤_};
 ghost use lib.ListN.{length, drop};
 ghost use Rattle.ranges.specs.Fold.{anyBelow};
-ghost use Rattle.lent.specs.Lent.{orElse};
-ghost use Rattle.log.specs.Layout.{workersOf};
+ghost use Rattle.lent.specs.Lent.{orElse, wordOf};
+ghost use Rattle.log.specs.Layout.{workersOf, logOf};
 ghost use Rattle.log.specs.Model.{workerCount, eventCount};
 ghost use Rattle.accept.specs.Refusal.{logRefusal};
 ghost use Rattle.causality.specs.Calls.{yesUnless};
 ghost use Rattle.choice.specs.Choice.{lostAt, workerLost, isStartable};
-ghost use Rattle.covering.specs.Covering.{isSet, cutOfAll, withoutSet, setStarts, coveringSet};
+ghost use Rattle.covering.specs.Covering.{isSet, cutOfAll, withoutSet, setStarts, coveringSet, CoversWhenStartable};
+ghost use Rattle.covering.specs.Withdrawn.{CoversNoneWithdrawn};
 ghost use Rattle.covering.specs.Inner.Looked.{firstSet};
 
 // Whether checkpoint c of worker w may be chosen and has this identifier.
@@ -130,6 +131,8 @@ fn is_covering(log: &[u8], identifier: u32) -> bool
 pub fn covers(log: &[u8], identifier: u32, others: u32) -> Test
     ensures refused { λ r. ⌜ r .refusal ≡ orElse (logRefusal (now (log .entry))) others ⌝ }
     ensures answer { λ r. ⌜ r .yes ≡ yesUnless (r .refusal) (coveringSet (workersOf (now (log .entry))) identifier) ⌝ }
+    ensures exactly { λ r. ⌜ (r .refusal ≡ 0 → CoversWhenStartable (workersOf (now (log .entry))) identifier (wordOf (r .yes))) ⌝ }
+    ensures withdrawn { λ r. ⌜ (r .refusal ≡ 0 → CoversNoneWithdrawn (logOf (now (log .entry))) identifier (wordOf (r .yes))) ⌝ }
 {
     let refusal = lent::or_else(accept::accept(log), others);
     if refusal != 0 {

@@ -1,8 +1,8 @@
 -- What a call is lent and what it leaves, as document 01, "Refused by the input", says of every call.
 -- Assumes nothing.
 use mathlib.Core.Path.{_≡_}
-use mathlib.Core.Bool.{cond}
-use mathlib.Core.List.{List, _++_}
+use mathlib.Core.Bool.{Bool, cond}
+use mathlib.Core.List.{List, [], _∷_, _++_}
 use Prim.Native.Nat.{ℕ}
 use lib.Dec.{eqb, ltb}
 use lib.ListN.{length, drop, getD}
@@ -30,3 +30,23 @@ unlessRefused refusal new lent = cond (eqb refusal 0) (onto new lent) lent
 -- the same of scratch, whose "content after a success is free"
 abbrev pub KeptIfRefused : ℕ → List ℕ → List ℕ → Type 0
 KeptIfRefused refusal lent left = (refusal ≡ 0 → ⊥) → left ≡ lent
+
+-- all that a call returns and leaves: its number, and each slice that it was lent to write, in the order of its parameters, as it is after
+-- the call. Scratch is none of them: it is free after a success
+pub record Left : Type 0 where
+  pub answer : ℕ
+  pub slices : List (List ℕ)
+
+abbrev pub left : ℕ → List (List ℕ) → Left
+left answer slices = record { answer = answer; slices = slices }
+
+-- of a call that writes one slice, from its number, the new words and those lent; and of a call that writes two
+abbrev pub leaves : ℕ → List ℕ → List ℕ → Left
+leaves refusal new lent = left refusal (unlessRefused refusal new lent ∷ [])
+
+abbrev pub leavesBoth : ℕ → List ℕ → List ℕ → List ℕ → List ℕ → Left
+leavesBoth refusal new lent more lent′ = left refusal (unlessRefused refusal new lent ∷ unlessRefused refusal more lent′ ∷ [])
+
+-- a test's yes or no as a word: 1 for yes, 0 for no
+unfoldable pub wordOf : Bool → ℕ
+wordOf b = cond b 1 0

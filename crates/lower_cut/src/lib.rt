@@ -7,13 +7,15 @@ ghost use Prim.Native.Nat.{_<_, _≤_};
 ghost use lib.ListN.{length};
 ghost use Rattle.lent.specs.Lent.{onto, unlessRefused, KeptIfRefused};
 ghost use Rattle.log.specs.Layout.{workersOf};
-ghost use Rattle.log.specs.Model.{workerCount};
+ghost use Rattle.log.specs.Model.{workerCount, IsEvent};
 ghost use Rattle.accept.specs.Refusal.{logRefusal, given};
-ghost use Rattle.log.specs.Model.{IsEvent};
 ghost use Rattle.lower_cut.specs.Figure2.{figure2, lowerCut};
 ghost use Rattle.refusals.specs.Refusals.{searchRefusal};
 ghost use Rattle.lower_cut.specs.Workers.{bitOf, workersWord};
-ghost use Rattle.lower_cut.specs.Calls.{foundCut, cutAnswer, cutTotals};
+ghost use Rattle.lower_cut.specs.Calls.{foundCut, cutAnswer, cutTotalWords, cutTotals};
+
+// The words that the exported lower cut is lent for what it returns.
+pub const CUT_TOTALS: usize = 2;
 
 // What the lower cut returns beside its words.
 pub struct Cut {
@@ -111,7 +113,7 @@ pub fn lower_cut(
 
 // Writes what the lower cut returns.
 pub fn write_cut(totals: &mut [u64], cut: Cut)
-    requires { ⌜ 2 ≤ length (now totals) ⌝ }
+    requires { ⌜ cutTotalWords ≤ length (now totals) ⌝ }
     ensures totals { λ _. ⌜ now (totals .exit) ≡ onto (cutTotals cut) (now (totals .entry)) ⌝ }
 {
     totals[0] = cut.visits;

@@ -6,12 +6,12 @@ use Prim.Native.Nat.{ℕ, zero, suc, _+_, _*_, _<_, _≤_}
 use native.Mathlib.Omega.{arith}
 use borrow.Author.Tests.{eqb-true}
 use lib.Dec.{eqb}
-use lib.ListN.{length}
+use lib.ListN.{length, take}
 use Rattle.ranges.specs.Fold.{joinBelow}
 use Rattle.ranges.proofs.Bools.{or-true-cases}
 use Rattle.ranges.proofs.Tabulate.{tabulate-same}
-use Rattle.lent.proofs.Lent.{or-else-zero, or-else-second}
-use Rattle.lent.specs.Lent.{at}
+use Rattle.lent.proofs.Lent.{or-else-zero, or-else-second, named-words}
+use Rattle.lent.specs.Lent.{at, unlessRefused}
 use Rattle.bytes_le.specs.Little.{Bytes}
 use Rattle.bytes_le.proofs.Little.{bytes-append}
 use Rattle.records.specs.Forms.{isForm, firstForm, secondForm}
@@ -278,3 +278,9 @@ archived s p =
       one = λ t q.
           (λ e. agree s t p q (sym (same-log s p) ∙ ap logOf e ∙ same-log t q), λ a. ap packed (agreed-log s t p q a));
     }
+
+-- the same of the bytes that a call leaves in front of the others
+pub file-archived : (s : List ℕ) → Packable s → (out : List ℕ) (number : ℕ) → number ≡ packedLength (workersOf s)
+    → Archived s (take number (unlessRefused 0 (packed (logOf s)) out))
+unfolding unlessRefused
+file-archived s p out number is = rw (is, named-words (packedLength (workersOf s)) (packed (logOf s)) out (length-same s p)) (archived s p)

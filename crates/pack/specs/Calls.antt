@@ -1,14 +1,16 @@
--- What the writer of packed logs refuses and returns.
+-- What the writer of packed logs refuses, returns and leaves.
 -- Assumes nothing.
 use mathlib.Core.Bool.{cond}
+use mathlib.Core.List.{List, [], _∷_}
 use Prim.Native.Nat.{ℕ}
 use lib.Dec.{eqb, ltb}
-use Rattle.lent.specs.Lent.{orElse}
+use lib.ListN.{length}
+use Rattle.lent.specs.Lent.{orElse, wordsRefusal, Left, leavesBoth}
 use Rattle.log.specs.Limits.{maxLength}
-use Rattle.log.specs.Model.{Workers}
+use Rattle.log.specs.Model.{Workers, Log}
 use Rattle.accept.specs.Refusal.{Given}
 use Rattle.pack.specs.declared.Packed.{Packed}
-use Rattle.pack.specs.Packed.{packedLength}
+use Rattle.pack.specs.Packed.{packedLength, packed}
 
 -- "26, the packed log would exceed 4,194,304 bytes; 25, too few bytes lent for it": of its length and the number of bytes lent
 unfoldable pub roomRefusal : ℕ → ℕ → ℕ
@@ -21,3 +23,8 @@ packRefusal log lent others = orElse (log .refusal) (orElse (roomRefusal (packed
 -- "returns the bytes written"; "A refusal returns its number with every other number 0"
 unfoldable pub packAnswer : ℕ → Workers → Packed
 packAnswer refusal log = cond (eqb refusal 0) (record { refusal = 0; written = packedLength log }) (record { refusal = refusal; written = 0 })
+
+-- `pack`, of what it is given of a log and of the log itself, whose form it keeps: of the bytes and of the word for their number
+abbrev pub packCall : Given → Log → List ℕ → List ℕ → Left
+packCall given log out written =
+    leavesBoth (packRefusal given (length out) (wordsRefusal (length written) 1)) (packed log) out (packedLength (log .workers) ∷ []) written

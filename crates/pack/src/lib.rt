@@ -2,7 +2,7 @@
 
 ghost use mathlib.Core.Path.{_≡_};
 ghost use Prim.Native.Nat.{_+_, _<_, _≤_};
-ghost use lib.ListN.{length};
+ghost use lib.ListN.{length, take};
 ghost use Rattle.ranges.specs.Fold.{joinBelow};
 ghost use Rattle.lent.specs.Lent.{unlessRefused};
 ghost use Rattle.lent.specs.Inner.Overwrite.{overwrite};
@@ -13,6 +13,7 @@ ghost use Rattle.accept.specs.Refusal.{given};
 ghost use Rattle.pack.specs.Packed.{numberAt, sectionsOf, sectionsSize, startOf, entryOf, packedLength, fieldsOf, packed};
 ghost use Rattle.pack.specs.Inner.Room.{Room};
 ghost use Rattle.pack.specs.Calls.{roomRefusal, packRefusal, packAnswer};
+ghost use Rattle.pack.specs.Archive.{Archived};
 
 // What packing returns: the number that refuses it and the bytes written.
 pub struct Packed {
@@ -154,6 +155,7 @@ pub fn pack(log: &[u8], others: u32, out: &mut [u8]) -> Packed
     ensures refused { λ r. ⌜ r .refusal ≡ packRefusal (given (now (log .entry))) (length (now (out .entry))) others ⌝ }
     ensures answer { λ r. ⌜ r ≡ packAnswer (r .refusal) (workersOf (now (log .entry))) ⌝ }
     ensures out { λ r. ⌜ now (out .exit) ≡ unlessRefused (r .refusal) (packed (logOf (now (log .entry)))) (now (out .entry)) ⌝ }
+    ensures archived { λ r. ⌜ (r .refusal ≡ 0 → Archived (now (log .entry)) (take (r .written) (now (out .exit)))) ⌝ }
 {
     let refusal = pack_refusal(log, out.len(), others);
     if refusal != 0 {

@@ -25,7 +25,7 @@ use Rattle.refusals.proofs.Allowed.{breakpoint-ok, scratch-few}
 use Rattle.restore_plan.specs.Plan.{planWords}
 use Rattle.restore_plan.specs.declared.Totals.{Totals}
 use Rattle.unit_table.specs.Table.{builtIn}
-use Rattle.restore_plan.specs.Calls.{foundPlan, planTotals}
+use Rattle.restore_plan.specs.Calls.{planTotalWords, foundPlan, planTotals}
 use Rattle.plan_text.specs.Text.{breakpointLine, processLines, totalsLine, foundText, refusedText, planText}
 
 -- ---- what a call that is not refused leaves in the lent words
@@ -41,7 +41,7 @@ pub upper-long : (log : Workers) (w e : ℕ) → length (upperLine log w e) ≡ 
 unfolding upperLine
 upper-long log w e = length-tabulate (upperAt log w e) (workerCount log)
 
-pub totals-long : (found : Totals) → length (planTotals found) ≡ 4
+pub totals-long : (found : Totals) → length (planTotals found) ≡ planTotalWords
 unfolding planTotals
 totals-long found = refl
 
@@ -55,13 +55,13 @@ module _ (s : List ℕ) (w e : ℕ) where
   line-number each accepted = rw (accepted, words-enough (each * maxWorkers) (each * workerCount (workersOf s)) (mul-le-mul-left each (few accepted)))
 
   planned : ℕ
-  planned = searchRefusal (given s) w e 3 (3 * maxWorkers) (wordsRefusal 4 4) (2 * maxWorkers)
+  planned = searchRefusal (given s) w e 3 (3 * maxWorkers) (wordsRefusal planTotalWords planTotalWords) (2 * maxWorkers)
 
   plan-accepted : breakpointRefusal (given s) w e ≡ 0 → planned ≡ 0
   unfolding planned searchRefusal scratchRefusal orElse
   plan-accepted accepted =
       rw (
-        words-enough 4 4 (omega arith),
+        words-enough planTotalWords planTotalWords (omega arith),
         line-number 3 accepted,
         le-ltb (2 * maxWorkers) (scratchWords (workerCount (workersOf s))) (scratch-few (workerCount (workersOf s)) (few accepted)),
       )
@@ -70,7 +70,7 @@ module _ (s : List ℕ) (w e : ℕ) where
   unfolding planned searchRefusal lineRefusal
   plan-refused refused = rw (or-else-first (breakpointRefusal (given s) w e) _ refused, or-else-first (breakpointRefusal (given s) w e) _ refused)
 
-  pub plan-number : searchRefusal (given s) w e 3 (3 * maxWorkers) (wordsRefusal 4 4) (2 * maxWorkers) ≡ breakpointRefusal (given s) w e
+  pub plan-number : searchRefusal (given s) w e 3 (3 * maxWorkers) (wordsRefusal planTotalWords planTotalWords) (2 * maxWorkers) ≡ breakpointRefusal (given s) w e
   unfolding planned
   plan-number = ⊎-elim (λ q. plan-accepted q ∙ sym q) plan-refused (eq-or-ne (breakpointRefusal (given s) w e) 0)
 

@@ -13,7 +13,7 @@ ghost use Rattle.refusals.specs.Refusals.{breakpointRefusal, searchRefusal};
 ghost use Rattle.upper_line.specs.Upper.{upperLine};
 ghost use Rattle.restore_plan.specs.Plan.{planWords};
 ghost use Rattle.unit_table.specs.Table.{builtIn};
-ghost use Rattle.restore_plan.specs.Calls.{foundPlan, planTotals};
+ghost use Rattle.restore_plan.specs.Calls.{planTotalWords, foundPlan, planTotals};
 ghost use Rattle.plan_text.specs.Text.{withNumber, ended, refusedText, breakpointLine, fourNumbers, wordsOf, processLine, processLines, totalsLine, foundText, planText, textOf};
 ghost use Rattle.plan_text.specs.Buffer.{Holds, Adds};
 
@@ -221,7 +221,7 @@ fn built_in_plan(
     totals: &mut [u64],
 ) -> u32
     ensures answer { λ r. ⌜ r ≡ searchRefusal (given (now (log .entry))) worker event 3 (length (now (words .entry)))
-        (wordsRefusal (length (now (totals .entry))) 4) (length (now (scratch .entry))) ⌝ }
+        (wordsRefusal (length (now (totals .entry))) planTotalWords) (length (now (scratch .entry))) ⌝ }
     ensures words { λ r. ⌜ now (words .exit) ≡ unlessRefused r
         (planWords (workersOf (now (log .entry))) (lowerCut (workersOf (now (log .entry))) worker event)) (now (words .entry)) ⌝ }
     ensures totals { λ r. ⌜ now (totals .exit) ≡ unlessRefused r (planTotals (foundPlan builtIn (workersOf (now (log .entry))) worker event)) (now (totals .entry)) ⌝ }
@@ -237,7 +237,7 @@ fn put_plan(out: &mut [u8], log: &[u8], worker: u32, event: u32) -> usize
 {
     let mut words = [0u32; PLAN_WORDS];
     let mut scratch = [0u32; SCRATCH];
-    let mut totals = [0u64; 4];
+    let mut totals = [0u64; restore_plan::PLAN_TOTALS];
     let refusal = built_in_plan(log, worker, event, &mut words, &mut scratch, &mut totals);
     if refusal != 0 {
         return put_refused(out, refusal);

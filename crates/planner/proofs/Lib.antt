@@ -1,6 +1,4 @@
 pub mod Answered
-pub mod Covered
-pub mod Planned
 pub mod StepWords
 pub mod Restored
 pub mod SameAnswers

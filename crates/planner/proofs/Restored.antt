@@ -7,32 +7,30 @@ use lib.ListN.{length, take, drop}
 use Rattle.lent.specs.Lent.{wordsRefusal, onto, unlessRefused}
 use Rattle.lent.proofs.Lent.{or-else-zero, words-ok, put, written, named-words}
 use Rattle.log.specs.Layout.{workersOf}
-use Rattle.log.specs.Model.{Workers, workerCount}
+use Rattle.log.specs.Model.{Workers, workerCount, IsEvent}
 use Rattle.accept.specs.Refusal.{given}
 use Rattle.accept.specs.WellFormed.{WellFormed}
-use Rattle.log.specs.Model.{IsEvent}
 use Rattle.lower_cut.specs.Figure2.{lowerCut}
 use Rattle.refusals.proofs.Allowed.{SearchLent}
 use Rattle.unit_table.specs.Table.{Table}
-use Rattle.restore_plan.specs.Calls.{planRefusal, foundPlan, planTotals}
+use Rattle.restore_plan.specs.Calls.{planTotalWords, planRefusal, foundPlan, planTotals, plannedWords}
 use Rattle.restore_plan.specs.Plan.{planStarts}
 use Rattle.cost.specs.Words.{startsIn}
 use Rattle.restore_plan.proofs.Written.{plan-long}
 use Rattle.restore_plan.proofs.PlanTable.{plan-ok}
 use Rattle.replay_machine.specs.Machine.{listed, stepWords}
-use Rattle.replay_machine.specs.Calls.{machineRun, machineAfter, othersRefusal, restoreRefusal}
+use Rattle.replay_machine.specs.Calls.{machineRun, machineAfter, othersRefusal, restoreRefusal, plannedRun, plannedAfter}
 use Rattle.replay_machine.specs.Inner.State.{IsState}
 use Rattle.replay_machine.specs.Demand3.{Demand3}
 use Rattle.replay_machine.proofs.Demand.{starts-long, plan-held-starts, after-long, demand-3}
 use Rattle.replay_machine.proofs.Call.{plan-state}
 use Rattle.replay.proofs.Storing.{listed-length}
-use Rattle.planner.specs.Calls.{plannedWords, plannedRun, plannedAfter}
 use Rattle.planner.proofs.StepWords.{step-wide}
 
 -- what the call may use where it is not refused; the call of `plan` is then not refused either
 pub record RestoreLent (s : List ℕ) (w e calls : ℕ) (table : List ℕ) (words scratch positions steps totals : ℕ) : Type 0 where
   pub search : SearchLent s w e 3 words (othersRefusal (workersOf s) calls positions steps totals) scratch
-  pub planned : planRefusal (given s) w e table words (wordsRefusal totals 4) scratch ≡ 0
+  pub planned : planRefusal (given s) w e table words (wordsRefusal totals planTotalWords) scratch ≡ 0
   pub placed : workerCount (workersOf s) ≤ positions
   pub stepped : calls * (workerCount (workersOf s) + 1) ≤ steps
 
@@ -43,7 +41,7 @@ restore-ok {s} {w} {e} {calls} {table} {words} {scratch} {positions} {steps} {to
     let n = workerCount (workersOf s) in
     let search = plan-ok found none .search in
     let room = search .line .rest in
-    let first = or-else-zero (wordsRefusal totals 4) _ room in
+    let first = or-else-zero (wordsRefusal totals planTotalWords) _ room in
     let second = or-else-zero (wordsRefusal positions n) (wordsRefusal steps (calls * (n + 1))) (first .1) in
     record {
       search = search;
@@ -88,7 +86,7 @@ module _ (log : Workers) (ok : WellFormed log) (i e : ℕ) (event : IsEvent log 
   pub restored : (table : Table) (words words′ totals totals′ positions positions′ steps steps′ : List ℕ)
       → words′ ≡ onto (plannedWords log i e) words → totals′ ≡ onto (planTotals (foundPlan table log i e)) totals
       → positions′ ≡ onto (plannedAfter log i e workers) positions → steps′ ≡ onto (listed stepWords (plannedRun log i e workers)) steps
-      → Demand3 log i e table workers (take 4 totals′) (take (3 * workerCount log) words′) (take (workerCount log) positions′) (take (length workers * (workerCount log + 1)) steps′)
+      → Demand3 log i e table workers (take planTotalWords totals′) (take (3 * workerCount log) words′) (take (workerCount log) positions′) (take (length workers * (workerCount log + 1)) steps′)
   unfolding planTotals
   restored table words words′ totals totals′ positions positions′ steps steps′ a b c d =
       rw (
@@ -96,7 +94,7 @@ module _ (log : Workers) (ok : WellFormed log) (i e : ℕ) (event : IsEvent log 
         b,
         c,
         d,
-        named-words 4 (planTotals (foundPlan table log i e)) totals refl,
+        named-words planTotalWords (planTotals (foundPlan table log i e)) totals refl,
         named-words _ (plannedWords log i e) words (plan-long log (lowerCut log i e)),
         named-words _ (plannedAfter log i e workers) positions (after-long log ok i e event workers),
         named-words _ (listed stepWords (plannedRun log i e workers)) steps steps-long,

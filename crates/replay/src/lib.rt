@@ -7,17 +7,17 @@ use cost::cut_in;
 use cost::start_in;
 use records::Event;
 ghost use mathlib.Core.Path.{_≡_};
-ghost use mathlib.Core.List.{List};
+ghost use mathlib.Core.List.{List, [], _∷_};
 ghost use Prim.Native.Nat.{ℕ, _+_, _*_, _<_, _≤_};
 ghost use lib.ListN.{length};
 ghost use Rattle.ranges.specs.Fold.{anyBelow};
-ghost use Rattle.lent.specs.Lent.{at};
+ghost use Rattle.lent.specs.Lent.{at, left};
 ghost use Rattle.log.specs.Layout.{workersOf};
 ghost use Rattle.log.specs.Model.{workerCount};
 ghost use Rattle.accept.specs.Refusal.{logRefusal, given};
 ghost use Rattle.cost.specs.Words.{startIn};
 ghost use Rattle.replay_machine.specs.Machine.{eventAnswer};
-ghost use Rattle.replay_machine.specs.Calls.{disordered, stateRefusal, stepRefusal, machineAnswer, machineMoved, stepAnswer, stepAfter};
+ghost use Rattle.replay_machine.specs.Calls.{disordered, stateRefusal, stepRefusal, machineAnswer, machineMoved, stepCall};
 ghost use Rattle.replay_machine.specs.Inner.State.{IsState};
 
 // Whether worker w is without start <= position <= cut <= count.
@@ -127,8 +127,7 @@ fn advance(log: &[u8], words: &[u32], positions: &mut [u32], w: usize) -> u32
 
 // One step of a worker: 0 and one position more, or the number of its refusal and no change.
 pub fn step(log: &[u8], words: &[u32], positions: &mut [u32], worker: u32) -> u32
-    ensures answer { λ r. ⌜ r ≡ stepAnswer (given (now (log .entry))) (now (words .entry)) (now (positions .entry)) worker ⌝ }
-    ensures positions { λ _. ⌜ now (positions .exit) ≡ stepAfter (given (now (log .entry))) (now (words .entry)) (now (positions .entry)) worker ⌝ }
+    ensures left { λ r. ⌜ left r (now (positions .exit) ∷ []) ≡ stepCall (given (now (log .entry))) (now (words .entry)) (now (positions .entry)) worker ⌝ }
 {
     let refusal = step_refusal(log, words, positions, worker);
     if refusal != 0 {

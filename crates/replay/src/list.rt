@@ -1,14 +1,14 @@
 // A step for each number of a list, and the refusals of a plan with such a list.
 
 ghost use mathlib.Core.Path.{_≡_};
-ghost use mathlib.Core.List.{_++_};
+ghost use mathlib.Core.List.{[], _∷_, _++_};
 ghost use Prim.Native.Nat.{_≤_};
 ghost use lib.ListN.{length, drop};
-ghost use Rattle.lent.specs.Lent.{wordsRefusal, unlessRefused};
+ghost use Rattle.lent.specs.Lent.{left};
 ghost use Rattle.log.specs.Layout.{workersOf};
 ghost use Rattle.accept.specs.Refusal.{logRefusal, given};
 ghost use Rattle.replay_machine.specs.Machine.{listed, answerWord};
-ghost use Rattle.replay_machine.specs.Calls.{stepsRefusal, othersRefusal, restoreRefusal, machineRun, machineAfter};
+ghost use Rattle.replay_machine.specs.Calls.{stepsRefusal, othersRefusal, restoreRefusal, machineRun, machineAfter, stepsCall};
 ghost use Rattle.replay_machine.specs.Inner.State.{IsState};
 
 // The log's refusals, then 14 and 16, of a list of steps.
@@ -50,12 +50,8 @@ pub fn steps(
     workers: &[u32],
     answers: &mut [u32],
 ) -> u32
-    ensures answer { λ r. ⌜ r ≡ stepsRefusal (given (now (log .entry))) (now (words .entry)) (now (positions .entry))
-        (wordsRefusal (length (now (answers .entry))) (length (now (workers .entry)))) ⌝ }
-    ensures positions { λ r. ⌜ now (positions .exit) ≡ unlessRefused r
-        (machineAfter (workersOf (now (log .entry))) (now (words .entry)) (now (positions .entry)) (now (workers .entry))) (now (positions .entry)) ⌝ }
-    ensures answers { λ r. ⌜ now (answers .exit)
-        ≡ unlessRefused r (listed answerWord (machineRun (workersOf (now (log .entry))) (now (words .entry)) (now (positions .entry)) (now (workers .entry)))) (now (answers .entry)) ⌝ }
+    ensures left { λ r. ⌜ left r (now (positions .exit) ∷ now (answers .exit) ∷ [])
+        ≡ stepsCall (given (now (log .entry))) (now (words .entry)) (now (positions .entry)) (now (workers .entry)) (now (answers .entry)) ⌝ }
 {
     let others = lent::words_refusal(answers.len(), workers.len());
     let refusal = steps_refusal(log, words, positions, others);
@@ -76,7 +72,7 @@ fn others_refusal(log: &[u8], calls: usize, positions: usize, steps: usize, tota
     let placed = lent::words_refusal(positions, n);
     let stepped = lent::words_refusal(steps / (n + 1), calls);
     lent::or_else(
-        lent::words_refusal(totals, 4),
+        lent::words_refusal(totals, restore_plan::PLAN_TOTALS),
         lent::or_else(placed, stepped),
     )
 }

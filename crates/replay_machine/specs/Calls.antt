@@ -1,4 +1,4 @@
--- The whole answer of the calls `step` and `steps`, and the refusals of the plan with a list of steps, from all that is lent.
+-- What the calls `step`, `steps` and `restore_and_replay` are refused by, return and leave, from all that is lent.
 -- Assumes nothing.
 use mathlib.Core.Bool.{Bool, not, cond, _&&_}
 use mathlib.Core.List.{List, [], _∷_}
@@ -6,13 +6,16 @@ use Prim.Native.Nat.{ℕ, _+_, _*_}
 use lib.Dec.{leb}
 use lib.ListN.{length}
 use Rattle.ranges.specs.Fold.{anyBelow}
-use Rattle.lent.specs.Lent.{at, orElse, wordsRefusal}
+use Rattle.lent.specs.Lent.{at, orElse, wordsRefusal, unlessRefused, Left, left, leavesBoth}
 use Rattle.log.specs.Model.{Workers, workerCount, eventCount}
 use Rattle.accept.specs.Refusal.{Given}
 use Rattle.refusals.specs.Refusals.{workerRefusal}
-use Rattle.restore_plan.specs.Calls.{planRefusal}
+use Rattle.unit_table.specs.Table.{tableOf}
+use Rattle.lower_cut.specs.Figure2.{lowerCut}
+use Rattle.restore_plan.specs.Plan.{planStarts}
+use Rattle.restore_plan.specs.Calls.{planTotalWords, planRefusal, foundPlan, planTotals, plannedWords}
 use Rattle.cost.specs.Words.{cutIn, startIn, cutsIn, startsIn}
-use Rattle.replay_machine.specs.Machine.{Step, answerOf, movedBy, moved, run, positionsAfter}
+use Rattle.replay_machine.specs.Machine.{Step, answerOf, movedBy, moved, run, positionsAfter, listed, answerWord, stepWords}
 
 -- 16: "some worker without start ≤ position ≤ cut ≤ count"
 unfoldable pub disordered : Workers → List ℕ → List ℕ → ℕ → Bool
@@ -68,9 +71,36 @@ calls log words positions (w ∷ workers) =
 -- the plan with a list of step calls from the planned starts: 14 for the totals, the positions, and an answer and the positions of each call
 unfoldable pub othersRefusal : Workers → ℕ → ℕ → ℕ → ℕ → ℕ
 othersRefusal log calls positions steps totals =
-    orElse (wordsRefusal totals 4) (orElse (wordsRefusal positions (workerCount log)) (wordsRefusal steps (calls * (workerCount log + 1))))
+    orElse (wordsRefusal totals planTotalWords) (orElse (wordsRefusal positions (workerCount log)) (wordsRefusal steps (calls * (workerCount log + 1))))
 
 -- the plan's refusals, with these
 unfoldable pub restoreRefusal : Given → ℕ → ℕ → ℕ → List ℕ → ℕ → ℕ → ℕ → ℕ → ℕ → ℕ
 restoreRefusal log w e calls table words scratch positions steps totals =
     planRefusal log w e table words (othersRefusal (log .workers) calls positions steps totals) scratch
+
+-- `step`: of plan words, positions and a worker; `steps`: of plan words, positions, a list of workers and the answers
+abbrev pub stepCall : Given → List ℕ → List ℕ → ℕ → Left
+stepCall log words positions w = left (stepAnswer log words positions w) (stepAfter log words positions w ∷ [])
+
+abbrev pub stepsCall : Given → List ℕ → List ℕ → List ℕ → List ℕ → Left
+stepsCall log words positions workers answers =
+    leavesBoth (stepsRefusal log words positions (wordsRefusal (length answers) (length workers)))
+    (machineAfter (log .workers) words positions workers) positions (listed answerWord (machineRun (log .workers) words positions workers)) answers
+
+-- the machine's run of a list over the words of a plan from the planned starts, and the positions after it
+abbrev pub plannedRun : Workers → ℕ → ℕ → List ℕ → List Step
+plannedRun log w e workers = machineRun log (plannedWords log w e) (planStarts log (lowerCut log w e)) workers
+
+abbrev pub plannedAfter : Workers → ℕ → ℕ → List ℕ → List ℕ
+plannedAfter log w e workers = machineAfter log (plannedWords log w e) (planStarts log (lowerCut log w e)) workers
+
+-- `restore_and_replay`: of a worker, an event, a list of workers, a unit table, the words, the number of scratch words, the positions, the
+-- steps and the totals
+abbrev pub restoreCall : Given → ℕ → ℕ → List ℕ → List ℕ → List ℕ → ℕ → List ℕ → List ℕ → List ℕ → Left
+restoreCall log w e workers table words scratch positions steps totals =
+    let r = restoreRefusal log w e (length workers) table (length words) scratch (length positions) (length steps) (length totals) in
+    left r
+    (unlessRefused r (plannedWords (log .workers) w e) words
+    ∷ unlessRefused r (plannedAfter (log .workers) w e workers) positions
+    ∷ unlessRefused r (listed stepWords (plannedRun (log .workers) w e workers)) steps
+    ∷ unlessRefused r (planTotals (foundPlan (tableOf table) (log .workers) w e)) totals ∷ [])

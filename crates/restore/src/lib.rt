@@ -7,17 +7,17 @@ ghost use Prim.Native.Nat.{_*_, _<_, _≤_};
 ghost use lib.ListN.{length, take};
 ghost use Rattle.ranges.specs.Fold.{tabulate};
 ghost use Rattle.lent.specs.Lent.{onto, unlessRefused, KeptIfRefused};
-ghost use Rattle.log.specs.Layout.{workersOf};
-ghost use Rattle.log.specs.Model.{workerCount};
+ghost use Rattle.log.specs.Layout.{workersOf, logOf};
+ghost use Rattle.log.specs.Model.{workerCount, IsEvent};
 ghost use Rattle.accept.specs.Refusal.{logRefusal, given};
-ghost use Rattle.log.specs.Model.{IsEvent};
 ghost use Rattle.lower_cut.specs.Figure2.{lowerCut};
 ghost use Rattle.lower_cut.specs.Calls.{foundCut};
 ghost use Rattle.restore_plan.specs.Plan.{planWords};
 ghost use Rattle.cost.specs.Words.{cutIn, cutsIn};
 ghost use Rattle.unit_table.specs.Table.{tableOf, tableRefusal};
-ghost use Rattle.restore_plan.specs.Calls.{planRefusal, foundPlan, planAnswer, planTotals};
+ghost use Rattle.restore_plan.specs.Calls.{planRefusal, foundPlan, planAnswer, planTotalWords, planTotals, plannedWords};
 ghost use Rattle.restore_plan.specs.Floor.{Floor};
+ghost use Rattle.restore_plan.specs.Shown.{Shown};
 
 // Moves the cut in the first n words to the first word of each worker, from the last worker down.
 fn spread(words: &mut [u32], n: usize)
@@ -103,10 +103,11 @@ pub fn plan(
         ≡ planRefusal (given (now (log .entry))) worker event (now (table .entry)) (length (now (words .entry))) others (length (now (scratch .entry))) ⌝ }
     ensures answer { λ r. ⌜ r ≡ planAnswer (r .refusal) (tableOf (now (table .entry))) (workersOf (now (log .entry))) worker event ⌝ }
     ensures words { λ r. ⌜ now (words .exit) ≡ unlessRefused (r .refusal)
-        (planWords (workersOf (now (log .entry))) (lowerCut (workersOf (now (log .entry))) worker event)) (now (words .entry)) ⌝ }
+        (plannedWords (workersOf (now (log .entry))) worker event) (now (words .entry)) ⌝ }
     ensures kept { λ r. ⌜ KeptIfRefused (r .refusal) (now (scratch .entry)) (now (scratch .exit)) ⌝ }
     ensures floor { λ r. ⌜ (r .refusal ≡ 0 → Floor (workersOf (now (log .entry))) worker event
         (take (3 * workerCount (workersOf (now (log .entry)))) (now (words .exit)))) ⌝ }
+    ensures shown { λ r. ⌜ (r .refusal ≡ 0 → Shown (logOf (now (log .entry))) (take (3 * workerCount (workersOf (now (log .entry)))) (now (words .exit)))) ⌝ }
 {
     let refusal = plan_refusal(
         log,
@@ -140,7 +141,7 @@ pub fn plan(
 
 // Writes what the plan returns.
 pub fn write_plan(totals: &mut [u64], found: Totals)
-    requires { ⌜ 4 ≤ length (now totals) ⌝ }
+    requires { ⌜ planTotalWords ≤ length (now totals) ⌝ }
     ensures totals { λ _. ⌜ now (totals .exit) ≡ onto (planTotals found) (now (totals .entry)) ⌝ }
 {
     totals[0] = found.visits;

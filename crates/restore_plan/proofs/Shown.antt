@@ -3,11 +3,13 @@
 use mathlib.Core.Path.{_≡_, refl, sym, _∙_, ap}
 use mathlib.Core.Bool.{Bool, true, false, _&&_}
 use mathlib.Core.Logic.{_⊎_, inl, inr, ⊎-elim}
-use mathlib.Core.List.{List}
-use Prim.Native.Nat.{ℕ, zero, suc, _+_, _≤_}
+use mathlib.Core.List.{List, _++_}
+use Prim.Native.Nat.{ℕ, zero, suc, _+_, _*_, _≤_}
 use native.Mathlib.Omega.{arith}
 use borrow.Author.Tests.{leb-true, eqb-true, eq-eqb}
 use lib.Dec.{eqb, leb}
+use lib.ListN.{take, drop}
+use lib.Seq.{take-at}
 use Rattle.ranges.specs.Fold.{anyBelow, lastBelow}
 use Rattle.ranges.proofs.Any.{any-each, any-some}
 use Rattle.ranges.proofs.Bools.{and-true-left, and-true-right, never-true}
@@ -16,14 +18,14 @@ use Rattle.lent.specs.Lent.{at}
 use Rattle.records.specs.Forms.{marksWithdrawn}
 use Rattle.records.specs.Mark.{topBit, hasMark}
 use Rattle.records.specs.declared.Checkpoint.{Checkpoint}
-use Rattle.log.specs.Model.{Workers, checkpointCount, checkpointOf}
+use Rattle.log.specs.Model.{Workers, workerCount, checkpointCount, checkpointOf}
 use Rattle.log.specs.Layout.{formField, workersOf, logOf}
 use Rattle.log.proofs.Read.{checkpoint-initial, identifier-below}
 use Rattle.choice.specs.Choice.{mayChoose}
 use Rattle.choice.proofs.Choosable.{may-recorded, may-kept, may-listed}
 use Rattle.restore_plan.specs.Plan.{standsAt, identifierOf, identifierAt, planStarts, planWords}
 use Rattle.restore_plan.specs.Shown.{IsListed, Shown}
-use Rattle.restore_plan.proofs.Written.{plan-start, plan-shown}
+use Rattle.restore_plan.proofs.Written.{plan-long, plan-start, plan-shown}
 
 initial-identifier : (log : Workers) (w : ℕ) → checkpointOf log w 0 .identifier ≡ 0
 initial-identifier log w = ap (λ (p : Checkpoint). p .identifier) (checkpoint-initial log w)
@@ -100,3 +102,8 @@ module _ (s : List ℕ) where
         last = λ w c h. rw (plan-shown log cut w h, plan-start log cut w h) (identifier-listed log w (at (planStarts log cut) w) c);
         none = λ w h. rw (plan-shown log cut w h, plan-start log cut w h) (identifier-none log w (at (planStarts log cut) w));
       }
+
+  -- .. and of the words that a call leaves in front of the others
+  pub shown-left : (n : ℕ) (cut found lent : List ℕ) → found ≡ planWords (workersOf s) cut → Shown (logOf s) (take (3 * workerCount (workersOf s)) (found ++ drop n lent))
+  shown-left n cut found lent is =
+      rw (is, take-at (planWords (workersOf s) cut) (drop n lent) (3 * workerCount (workersOf s)) (plan-long (workersOf s) cut)) (shown cut)

@@ -1,18 +1,19 @@
--- What the plan is refused by, and what it returns: "A refusal returns its number with every other number 0".
+-- What the plan is refused by, and what it returns and leaves: "A refusal returns its number with every other number 0".
 -- Assumes nothing.
 use mathlib.Core.Bool.{cond}
 use mathlib.Core.List.{List, [], _∷_}
 use Prim.Native.Nat.{ℕ}
 use lib.Dec.{eqb}
-use Rattle.lent.specs.Lent.{orElse}
+use lib.ListN.{length}
+use Rattle.lent.specs.Lent.{orElse, wordsRefusal, Left, leavesBoth}
 use Rattle.log.specs.Model.{Workers}
 use Rattle.accept.specs.Refusal.{Given}
 use Rattle.refusals.specs.Refusals.{searchRefusal}
 use Rattle.lower_cut.specs.Figure2.{lowerCut}
 use Rattle.lower_cut.specs.Calls.{foundCut}
 use Rattle.restore_plan.specs.declared.Totals.{Totals}
-use Rattle.restore_plan.specs.Plan.{planStarts}
-use Rattle.unit_table.specs.Table.{Table, tableRefusal}
+use Rattle.restore_plan.specs.Plan.{planStarts, planWords}
+use Rattle.unit_table.specs.Table.{Table, tableOf, tableRefusal}
 use Rattle.cost.specs.Cost.{eventsOf, unitsOf}
 
 -- the log's, then 12 to 15, and 27 for the unit table: "a plan call repeats it after 15"; "14 never judges the table"
@@ -37,5 +38,18 @@ planAnswer refusal table log w e =
     cond (eqb refusal 0) (foundPlan table log w e) (record { refusal = refusal; visits = 0; events = 0; units = 0; workers = 0 })
 
 -- "The exported plan writes visits, events, units and the workers word, in that order, to four lent 64-bit words"
+abbrev pub planTotalWords : ℕ
+planTotalWords = 4
+
 unfoldable pub planTotals : Totals → List ℕ
 planTotals found = found .visits ∷ found .events ∷ found .units ∷ found .workers ∷ []
+
+-- the words of the plan of event e of worker w
+abbrev pub plannedWords : Workers → ℕ → ℕ → List ℕ
+plannedWords log w e = planWords log (lowerCut log w e)
+
+-- `plan`: of a worker, an event, the unit table, the words, the number of scratch words and the totals
+abbrev pub planCall : Given → ℕ → ℕ → List ℕ → List ℕ → ℕ → List ℕ → Left
+planCall log w e table words scratch totals =
+    leavesBoth (planRefusal log w e table (length words) (wordsRefusal (length totals) planTotalWords) scratch)
+    (plannedWords (log .workers) w e) words (planTotals (foundPlan (tableOf table) (log .workers) w e)) totals

@@ -6,7 +6,7 @@ use Prim.Native.Nat.{ℕ, _+_, _*_}
 use lib.Dec.{eqb, ltb}
 use lib.ListN.{length, getD}
 use Rattle.ranges.specs.Fold.{anyBelow, joinBelow}
-use Rattle.lent.specs.Lent.{at}
+use Rattle.lent.specs.Lent.{at, wordsRefusal, Left, leaves}
 use Rattle.records.specs.declared.Kind.{Kind}
 use Rattle.records.specs.Kind.{column}
 
@@ -45,3 +45,7 @@ unitFault words k = ltb (at words k) 1 || ltb maxUnits (at words k)
 -- 27: "other than 12 words or a word outside 1 to 1,000"
 unfoldable pub tableRefusal : List ℕ → ℕ
 tableRefusal words = cond (not (eqb (length words) tableWords) || anyBelow (unitFault words) (length words)) 27 0
+
+-- `built_in_table`: of the words for it
+abbrev pub builtInCall : List ℕ → Left
+builtInCall table = leaves (wordsRefusal (length table) tableWords) builtInWords table

@@ -24,6 +24,7 @@ const UNITS: [[u32; KINDS]; 4] = [[2, 3, 5], [2, 4, 6], [3, 8, 9], [2, 5, 7]];
 pub fn write_built_in(table: &mut [u32])
     requires { ⌜ length (now table) ≡ tableWords ⌝ }
     ensures table { λ _. ⌜ now (table .exit) ≡ builtInWords ⌝ }
+    ensures loads { λ _. ⌜ tableRefusal (now (table .exit)) ≡ 0 ⌝ }
 {
     let mut j: usize = 0;
     while j < TABLE_WORDS {

@@ -1,2 +1,3 @@
 pub mod Upper
+pub mod Calls
 pub mod Inner

@@ -2,15 +2,15 @@
 
 ghost use mathlib.Core.Path.{_≡_};
 ghost use mathlib.Core.Logic.{_≢_};
+ghost use mathlib.Core.List.{[], _∷_};
 ghost use Prim.Native.Nat.{_+_, _<_, _≤_};
 ghost use lib.ListN.{length};
-ghost use Rattle.lent.specs.Lent.{unlessRefused};
+ghost use Rattle.lent.specs.Lent.{left};
 ghost use Rattle.log.specs.Layout.{workersOf};
-ghost use Rattle.log.specs.Model.{workerCount, eventCount};
+ghost use Rattle.log.specs.Model.{workerCount, eventCount, IsEvent};
 ghost use Rattle.accept.specs.Refusal.{logRefusal, given};
-ghost use Rattle.log.specs.Model.{IsEvent};
-ghost use Rattle.refusals.specs.Refusals.{lineRefusal};
 ghost use Rattle.upper_line.specs.Upper.{upperLine};
+ghost use Rattle.upper_line.specs.Calls.{upperLineCall};
 ghost use Rattle.upper_line.specs.Inner.Raising.{blocked, Passed, Raised};
 
 // Whether event k + 1 of worker w is a receive of a send beyond the line, or of the breakpoint event's message. A send names 0, which is
@@ -84,8 +84,7 @@ fn upper_into(log: &[u8], i: usize, event: u32, line: &mut [u32])
 
 // The upper line of a breakpoint event: its refusal, or 0 with the line in the first n words.
 pub fn upper_line(log: &[u8], worker: u32, event: u32, words: &mut [u32]) -> u32
-    ensures answer { λ r. ⌜ r ≡ lineRefusal (given (now (log .entry))) worker event 1 (length (now (words .entry))) 0 ⌝ }
-    ensures words { λ r. ⌜ now (words .exit) ≡ unlessRefused r (upperLine (workersOf (now (log .entry))) worker event) (now (words .entry)) ⌝ }
+    ensures left { λ r. ⌜ left r (now (words .exit) ∷ []) ≡ upperLineCall (given (now (log .entry))) worker event (now (words .entry)) ⌝ }
 {
     let refusal = refusals::line_refusal(log, worker, event, 1, words.len(), 0);
     if refusal != 0 {

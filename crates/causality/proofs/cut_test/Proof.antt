@@ -4,14 +4,14 @@ use borrow.Author.Tests.{ne-eqb}
 use Rattle.accept.proofs.Accepted.{well-formed}
 use Rattle.causality.specs.Calls.{yesUnless}
 use Rattle.refusals.proofs.Allowed.{test-ok}
-use Rattle.causality.proofs.CutTest.{first-words}
+use Rattle.causality.proofs.CutTest.{first-words, tells-consistent}
 use borrow.Author.Needs.{needs}
 use Rattle.causality.proofs.cut_test.Statement.{statement}
 use Rattle.causality.proofs.cut_test.Tie as tie
 
 returns : tie.Need-returns
 unfolding yesUnless
-returns c = (c .before .test-refusal .ensures, rw (ne-eqb _ _ (c .if1 .taken)))
+returns c = (c .before .test-refusal .ensures, (rw (ne-eqb _ _ (c .if1 .taken)), λ none. absurd (c .if1 .taken none)))
 
 some-lacks-requires : tie.Need-some-lacks-requires
 some-lacks-requires c κs =
@@ -23,7 +23,9 @@ unfolding yesUnless
 returns-2 c =
     let found = c .before .before .test-refusal .ensures in
     let none = c .before .if1 .left in
-    (sym none ∙ found, rw (c .some-lacks .ensures, first-words _ (well-formed _ (test-ok _ _ _ found none .0)) _))
+    let lent = test-ok _ _ _ found none in
+    let same = first-words _ (well-formed _ (lent .0)) (c .before .before .before .before .before .args .words .now) in
+    (sym none ∙ found, (rw (c .some-lacks .ensures, same), λ _. tells-consistent _ _ _ (lent .1) (lent .2) (rw (c .some-lacks .ensures) same)))
 
 pub cut-test-spec : {M : Type 1} → statement M
 cut-test-spec = tie.close (tie.spec (λ c κs. search needs) returns some-lacks-requires returns-2)

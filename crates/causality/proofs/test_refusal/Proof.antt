@@ -14,10 +14,10 @@ use Rattle.causality.proofs.test_refusal.Tie as tie
 
 returns : tie.Need-returns
 unfolding testRefusal orElse
-returns c = rw (← c .before .accept .ensures, ne-eqb _ _ (c .if1 .taken))
+returns c = rw (← c .before .accept .ensures .0, ne-eqb _ _ (c .if1 .taken))
 
 worker-count-requires : tie.Need-worker-count-requires
-worker-count-requires c κs = accepted-layout _ (sym (c .before .accept .ensures) ∙ c .if1 .left)
+worker-count-requires c κs = accepted-layout _ (sym (c .before .accept .ensures .0) ∙ c .if1 .left)
 
 -- of an accepted log the refusal is that of what is lent, then that of the cut words
 tested : (c : tie.After-or-else)
@@ -26,7 +26,7 @@ tested : (c : tie.After-or-else)
     ≡ orElse (c .or-else .result) (cutRefusal (workersOf (lent .log .now)) (lent .words .now))
 unfolding testRefusal
 tested c =
-    let accepted = sym (c .before .before .before .before .accept .ensures) ∙ c .before .before .before .if1 .left in
+    let accepted = sym (c .before .before .before .before .accept .ensures .0) ∙ c .before .before .before .if1 .left in
     rw (or-else-second _ _ accepted, ← c .before .before .worker-count .ensures .0, ← c .before .words-refusal .ensures, ← c .or-else .ensures)
 
 returns-2 : tie.Need-returns-2
@@ -36,7 +36,7 @@ some-over-count-requires : tie.Need-some-over-count-requires
 some-over-count-requires c κs =
     let lent = or-else-zero _ _ (sym (c .before .or-else .ensures) ∙ c .if2 .left) .0 in
     let enough = words-ok _ _ (sym (c .before .before .words-refusal .ensures) ∙ lent) in
-    (sym (c .before .before .before .before .before .accept .ensures) ∙ c .before .before .before .before .if1 .left, rw (c .before .before .before .worker-count .ensures .0) at enough)
+    (sym (c .before .before .before .before .before .accept .ensures .0) ∙ c .before .before .before .before .if1 .left, rw (c .before .before .before .worker-count .ensures .0) at enough)
 
 returns-3 : tie.Need-returns-3
 unfolding cutRefusal

@@ -4,6 +4,7 @@ use lib.Seq.{length-take-le}
 use native.Mathlib.Omega.{arith}
 use Rattle.accept.proofs.Accepted.{accepted-layout}
 use Rattle.lent.proofs.Lent.{written, untouched}
+use Rattle.lent.proofs.Left.{leaves-by}
 use Rattle.causality.proofs.Row.{vector-length}
 use Rattle.refusals.proofs.Allowed.{line-ok}
 use borrow.Author.Needs.{needs}
@@ -11,7 +12,7 @@ use Rattle.causality.proofs.vector.Statement.{statement}
 use Rattle.causality.proofs.vector.Tie as tie
 
 returns : tie.Need-returns
-returns c = (c .before .line-refusal .ensures, untouched _ _ _ (c .if1 .taken))
+returns c = leaves-by _ _ (c .before .line-refusal .ensures) (untouched _ _ _ (c .if1 .taken))
 
 worker-count-requires : tie.Need-worker-count-requires
 worker-count-requires c κs = accepted-layout _ (line-ok (c .before .line-refusal .ensures) (c .if1 .left) .breakpoint .accepted)
@@ -36,10 +37,9 @@ vector-into-requires c κs =
 returns-2 : tie.Need-returns-2
 returns-2 c =
     let found = c .before .before .before .before .before .before .line-refusal .ensures in
-    let none = c .before .before .before .before .before .if1 .left in (
-      sym none ∙ found,
-      rw (c .before .before .vector-into .ensures, c .before .before .before .before .worker-count .ensures .0) (written _ _ _ _ refl (vector-length _ _ _)),
-    )
+    let none = c .before .before .before .before .before .if1 .left in
+    leaves-by _ _ (sym none ∙ found)
+    (rw (c .before .before .vector-into .ensures, c .before .before .before .before .worker-count .ensures .0) (written _ _ _ _ refl (vector-length _ _ _)))
 
 pub vector-spec : {M : Type 1} → statement M
 vector-spec =

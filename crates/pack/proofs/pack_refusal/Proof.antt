@@ -9,17 +9,17 @@ use Rattle.pack.proofs.pack_refusal.Tie as tie
 
 returns : tie.Need-returns
 unfolding packRefusal
-returns c = rw (c .before .accept .ensures) (sym (or-else-first _ _ (rw (c .before .accept .ensures) at (c .if1 .taken))))
+returns c = rw (c .before .accept .ensures .0) (sym (or-else-first _ _ (rw (c .before .accept .ensures .0) at (c .if1 .taken))))
 
 packed-length-requires : tie.Need-packed-length-requires
-packed-length-requires c κs = accepted-layout _ (rw (c .before .accept .ensures) at (c .if1 .left))
+packed-length-requires c κs = accepted-layout _ (rw (c .before .accept .ensures .0) at (c .if1 .left))
 
 returns-2 : tie.Need-returns-2
 unfolding packRefusal
 returns-2 c =
     let asked = c .before .before .before .before in
     c .or-else .ensures ∙ rw (c .before .room-refusal .ensures, c .before .before .packed-length .ensures)
-    (sym (or-else-second _ _ (rw (asked .accept .ensures) at (c .before .before .before .if1 .left))))
+    (sym (or-else-second _ _ (rw (asked .accept .ensures .0) at (c .before .before .before .if1 .left))))
 
 pub pack-refusal-spec : {M : Type 1} → statement M
 pack-refusal-spec =

@@ -4,6 +4,7 @@ use mathlib.Core.Path.{refl, sym, _∙_, ap}
 use Prim.Native.Nat.{ℕ, _*_}
 use native.Mathlib.Omega.{arith}
 use lib.Seq.{length-take-le}
+use Rattle.lent.proofs.Left.{slice-of}
 use Rattle.accept.proofs.Accepted.{accepted-layout}
 use Rattle.refusals.proofs.Allowed.{breakpoint-ok}
 use Rattle.restore_plan.proofs.Written.{plan-long}
@@ -41,15 +42,18 @@ put-found-requires c κs =
     let n = c .before .before .before .before .worker-count .ensures .0 in (
       accepted,
       rw (planned .1 .0) (take-new _ _ _ _ none (plan-long _ _ ∙ ap (λ (k : ℕ). 3 * k) (sym n))),
-      rw (lined .1) (take-new _ _ _ _ (lined .0 ∙ line-number _ _ _ 1 accepted) (upper-long _ _ _ ∙ sym n)),
+      rw (slice-of 0 lined) (take-new _ _ _ _ (line-number _ _ _ 1 accepted) (upper-long _ _ _ ∙ sym n)),
       rw (planned .1 .1) (all-new _ _ _ none (totals-long _)),
     )
 
 returns-2 : tie.Need-returns-2
 returns-2 c =
-    let accepted = sym (plan-number _ _ _) ∙ sym (c .before .before .before .before .before .before .before .before .before .before .before .before .before .before .before .built-in-plan .ensures .0) ∙ c .before .before .before .before .before .before .before .before .before .before .before .if1 .left in
+    let at-if1 = c .before .before .before .before .before .before .before .before .before .before .before in
+    let accepted = sym (plan-number _ _ _) ∙ sym (at-if1 .before .before .before .before .built-in-plan .ensures .0) ∙ at-if1 .if1 .left in
     rw (accepted-text _ _ _ accepted) (c .before .before .put-found .ensures)
 
 pub put-plan-spec : {M : Type 1} → statement M
 put-plan-spec =
-    tie.close (tie.spec (λ c. search needs) (λ c. search needs) (λ c. search needs) built-in-plan-requires put-refused-requires (λ c. search needs) returns (λ c. search needs) upper-line-requires worker-count-requires (λ c. search needs) (λ c. search needs) slice-aggregate-put-found (λ c. search needs) slice-aggregate-put-found-2 (λ c. search needs) put-found-requires (λ c. search needs) returns-2)
+    tie.close
+    (tie.spec (λ c. search needs) (λ c. search needs) (λ c. search needs) built-in-plan-requires put-refused-requires (λ c. search needs) returns
+    (λ c. search needs) upper-line-requires worker-count-requires (λ c. search needs) (λ c. search needs) slice-aggregate-put-found (λ c. search needs) slice-aggregate-put-found-2 (λ c. search needs) put-found-requires (λ c. search needs) returns-2)

@@ -1,8 +1,8 @@
 -- `planner::covers` meets its contract. Assumes nothing.
 use mathlib.Core.Path.{sym, _∙_}
 use Rattle.lent.proofs.Lent.{or-else-zero, words-ok}
-use Rattle.planner.proofs.Answered.{answered}
-use Rattle.planner.proofs.Covered.{covered, covered-none}
+use Rattle.lent.proofs.Left.{leaves-by}
+use Rattle.planner.proofs.Answered.{answered, first-word}
 use borrow.Author.Needs.{needs}
 use Rattle.planner.proofs.covers.Statement.{statement}
 use Rattle.planner.proofs.covers.Tie as tie
@@ -15,13 +15,10 @@ returns : tie.Need-returns
 returns c =
     let written = c .before .before .write-answer .ensures in
     let tested = c .before .before .before .before .covers .ensures in (
-      written .0 ∙ rw (← c .before .before .before .before .before .words-refusal .ensures) (tested .0),
+      leaves-by _ _ (written .0 ∙ rw (← c .before .before .before .before .before .words-refusal .ensures) (tested .0)) (rw (written .0) (written .1 ∙ rw (tested .1 .0) (answered _ _ _))),
       (
-        rw (written .0) (written .1 ∙ rw (tested .1) (answered _ _ _)),
-        (
-          (λ none. covered _ _ _ _ _ _ _ (tested .0) (written .1) (tested .1) (sym (written .0) ∙ none)),
-          λ none. covered-none _ _ _ _ _ _ _ (tested .0) (written .1) (tested .1) (sym (written .0) ∙ none),
-        ),
+        (λ none. let zero = sym (written .0) ∙ none in rw (first-word _ _ _ _ (written .1) zero) (tested .1 .1 .0 zero)),
+        λ none. let zero = sym (written .0) ∙ none in rw (first-word _ _ _ _ (written .1) zero) (tested .1 .1 .1 zero),
       ),
     )
 

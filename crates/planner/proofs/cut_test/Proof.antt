@@ -1,8 +1,9 @@
 -- `planner::cut_test` meets its contract. Assumes nothing.
 use mathlib.Core.Path.{sym, _∙_}
 use Rattle.lent.proofs.Lent.{words-ok}
+use Rattle.lent.proofs.Left.{leaves-by}
 use Rattle.refusals.proofs.Allowed.{test-ok}
-use Rattle.planner.proofs.Answered.{answered}
+use Rattle.planner.proofs.Answered.{answered, first-word}
 use borrow.Author.Needs.{needs}
 use Rattle.planner.proofs.cut_test.Statement.{statement}
 use Rattle.planner.proofs.cut_test.Tie as tie
@@ -15,8 +16,8 @@ returns : tie.Need-returns
 returns c =
     let written = c .before .before .write-answer .ensures in
     let tested = c .before .before .before .before .cut-test .ensures in (
-      written .0 ∙ rw (← c .before .before .before .before .before .words-refusal .ensures) (tested .0),
-      rw (written .0) (written .1 ∙ rw (tested .1) (answered _ _ _)),
+      leaves-by _ _ (written .0 ∙ rw (← c .before .before .before .before .before .words-refusal .ensures) (tested .0)) (rw (written .0) (written .1 ∙ rw (tested .1 .0) (answered _ _ _))),
+      λ none. let zero = sym (written .0) ∙ none in rw (first-word _ _ _ _ (written .1) zero) (tested .1 .1 zero),
     )
 
 pub cut-test-spec : {M : Type 1} → statement M

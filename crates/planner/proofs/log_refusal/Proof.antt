@@ -1,12 +1,11 @@
 -- `planner::log_refusal` meets its contract. Assumes nothing.
-use mathlib.Core.Path.{sym, _∙_}
-use Rattle.accept.proofs.Once.{once, twice}
+use Rattle.planner.proofs.SameAnswers.{same-answers}
 use borrow.Author.Needs.{needs}
 use Rattle.planner.proofs.log_refusal.Statement.{statement}
 use Rattle.planner.proofs.log_refusal.Tie as tie
 
 returns : tie.Need-returns
-returns c = let said = c .accept .ensures in (said, (λ accepted form. once _ (sym said ∙ accepted) form, λ refused. twice _ (sym said ∙ refused)))
+returns c = let said = c .accept .ensures in (said .0, (said .1 .0, (said .1 .1, λ t. same-answers _ t)))
 
 pub log-refusal-spec : {M : Type 1} → statement M
 log-refusal-spec = tie.close (tie.spec (λ c κs. search needs) returns)

@@ -1,6 +1,7 @@
 -- `planner::lower_cut` meets its contract. Assumes nothing.
 use mathlib.Core.Path.{refl, sym, _∙_}
 use Rattle.lent.proofs.Lent.{words-ok, put-found, untouched}
+use Rattle.lent.proofs.Left.{leaves-both-by}
 use Rattle.refusals.proofs.Allowed.{search-ok}
 use Rattle.lower_cut.specs.Calls.{cutAnswer, cutTotals}
 use borrow.Author.Needs.{needs}
@@ -13,8 +14,8 @@ lower-cut-requires c κs = search needs
 returns : tie.Need-returns
 returns c =
     let called = c .before .before .before .before .before .lower-cut .ensures in (
-      rw (← c .before .before .before .before .before .before .before .before .words-refusal .ensures) (called .0),
-      (called .1 .1 .0, (untouched _ _ _ (c .if1 .taken), called .1 .1 .1)),
+      leaves-both-by _ _ _ _ (rw (← c .before .before .before .before .before .before .before .before .words-refusal .ensures) (called .0)) (called .1 .1 .0) (untouched _ _ _ (c .if1 .taken)),
+      called .1 .1 .1,
     )
 
 write-cut-requires : tie.Need-write-cut-requires
@@ -31,8 +32,9 @@ returns-2 c =
     let called = c .before .before .before .before .before .before .before .before .before .lower-cut .ensures in
     let none = c .before .before .before .before .if1 .left in
     let found = rw (none) at (called .1 .0) in (
-      sym none ∙ rw (← c .before .before .before .before .before .before .before .before .before .before .before .before .words-refusal .ensures) (called .0),
-      (rw (none) at (called .1 .1 .0), (put-found cutTotals _ _ _ _ found (c .before .before .write-cut .ensures), λ no. absurd (no refl))),
+      leaves-both-by _ _ _ _ (sym none ∙ rw (← c .before .before .before .before .before .before .before .before .before .before .before .before .words-refusal .ensures) (called .0))
+          (rw (none) at (called .1 .1 .0)) (put-found cutTotals _ _ _ _ found (c .before .before .write-cut .ensures)),
+      λ no. absurd (no refl),
     )
 
 pub lower-cut-spec : {M : Type 1} → statement M

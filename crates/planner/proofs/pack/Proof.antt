@@ -8,20 +8,20 @@ use Rattle.lent.proofs.Lent.{words-ok, put, untouched, storeEach, stored-words}
 use Rattle.log.specs.Layout.{workersOf}
 use Rattle.pack.specs.Packed.{packedLength}
 use Rattle.pack.specs.declared.Packed.{Packed}
-use Rattle.pack.proofs.Allowed.{pack-ok, lent-packable, answer-written}
-use Rattle.planner.proofs.Archived.{file-archived, file-alike}
+use Rattle.pack.proofs.Allowed.{pack-ok, answer-written}
+use Rattle.lent.proofs.Left.{leaves-both-by}
+use Rattle.planner.proofs.Answered.{first-word}
+use Rattle.planner.proofs.Archived.{archived-alike}
 use borrow.Author.Needs.{needs}
 use Rattle.planner.proofs.pack.Statement.{statement}
 use Rattle.planner.proofs.pack.Tie as tie
 
 returns : tie.Need-returns
 returns c =
-    let called = c .before .before .before in (
-      rw (← called .before .before .words-refusal .ensures) (called .pack .ensures .0),
-      (
-        called .pack .ensures .1 .1,
-        (untouched _ _ _ (c .if1 .taken), ((λ none. absurd (c .if1 .taken none)), (λ none. absurd (c .if1 .taken none)))),
-      ),
+    let called = c .before .before .before in
+    let no = c .if1 .taken in (
+      leaves-both-by _ _ _ _ (rw (← called .before .before .words-refusal .ensures) (called .pack .ensures .0)) (called .pack .ensures .1 .1 .0) (untouched _ _ _ no),
+      ((λ none. absurd (no none)), λ none. absurd (no none)),
     )
 
 slice-write-written : tie.Need-slice-write-written
@@ -37,34 +37,18 @@ returns-2 c =
     let start = asked .before .before .before .before in
     let none = c .if1 .left in
     let may = pack-ok (called .pack .ensures .0) none in
-    let p = lent-packable (λ i. omega (arith, asked .before .before .before .shared-slice-known .given i)) may in
     let enough = words-ok _ _ (sym (asked .words-refusal .ensures) ∙ may .rest) in
     let number = ap (λ (r : Packed). r .written) (called .pack .ensures .1 .0) ∙ answer-written _ _ none in
-    let filled = rw none at (called .pack .ensures .1 .1) in
+    let filled = rw none at (called .pack .ensures .1 .1 .0) in
     let wrote : set (start .args .written .now) 0 (called .pack .result .written) ≡ unlessRefused 0 (packedLength (workersOf (start .args .log .now)) ∷ []) (start .args .written .now) =
-    rw number (stored-words (_ ∷ []) _ enough ∙ put 0 _ _ refl) in (
-      sym none ∙ rw (← asked .words-refusal .ensures) (called .pack .ensures .0),
-      (
-        filled,
-        (
-          wrote,
-          (
-            (λ e. rw (filled, wrote) (file-archived (start .args .log .now) p (start .args .out .now) (start .args .written .now))),
-            (λ e. rw (filled, wrote) (file-alike (start .args .log .now) p (start .args .out .now) (start .args .written .now))),
-          ),
-        ),
-      ),
+    rw number (stored-words (_ ∷ []) _ enough ∙ put 0 _ _ refl) in
+    let word = first-word 0 _ _ _ wrote refl ∙ sym number in
+    let archived = called .pack .ensures .1 .1 .1 none in (
+      leaves-both-by _ _ _ _ (sym none ∙ rw (← asked .words-refusal .ensures) (called .pack .ensures .0)) filled wrote,
+      ((λ _. rw word archived), λ _. archived-alike _ _ (may .accepted) (rw word archived)),
     )
 
 pub pack-spec : {M : Type 1} → statement M
 pack-spec =
     tie.close
-    (tie.spec
-    (λ c κs. search needs)
-    (λ c κs. search needs)
-    (λ c. search needs)
-    returns
-    slice-write-written
-    (λ c. search needs)
-    (λ c. search needs)
-    returns-2)
+    (tie.spec (λ c κs. search needs) (λ c κs. search needs) (λ c. search needs) returns slice-write-written (λ c. search needs) (λ c. search needs) returns-2)

@@ -1,9 +1,9 @@
 -- `planner::plan` meets its contract. Assumes nothing.
 use mathlib.Core.Path.{refl, sym, _∙_}
 use Rattle.lent.proofs.Lent.{words-ok, put-found, untouched}
+use Rattle.lent.proofs.Left.{leaves-both-by}
 use Rattle.restore_plan.proofs.PlanTable.{plan-ok, as-before}
 use Rattle.restore_plan.specs.Calls.{planAnswer, planTotals}
-use Rattle.planner.proofs.Planned.{shown-left}
 use borrow.Author.Needs.{needs}
 use Rattle.planner.proofs.plan.Statement.{statement}
 use Rattle.planner.proofs.plan.Tie as tie
@@ -16,8 +16,8 @@ returns c =
     let called = c .before .before .before .before .before .plan .ensures in
     let no = c .if1 .taken in
     let answer = rw (c .before .before .before .before .before .before .before .before .words-refusal .ensures) at (called .0) in (
-      answer,
-      (called .1 .1 .0, (untouched _ _ _ no, (called .1 .1 .1 .0, ((λ none. absurd (no none)), ((λ none. absurd (no none)), λ same. as-before _ _ _ _ _ _ _ _ _ _ answer (untouched _ _ _ no) same))))),
+      leaves-both-by _ _ _ _ answer (called .1 .1 .0) (untouched _ _ _ no),
+      (called .1 .1 .1 .0, ((λ none. absurd (no none)), ((λ none. absurd (no none)), λ same. as-before _ _ _ _ _ _ _ _ _ _ answer (untouched _ _ _ no) same))),
     )
 
 write-plan-requires : tie.Need-write-plan-requires
@@ -37,8 +37,8 @@ returns-2 c =
     let words = rw (none) at (called .1 .1 .0) in
     let answer = sym none ∙ (rw (c .before .before .before .before .before .before .before .before .before .before .before .before .words-refusal .ensures) at (called .0)) in
     let totals = put-found planTotals _ _ _ _ found (c .before .before .write-plan .ensures) in (
-      answer,
-      (words, (totals, ((λ no. absurd (no refl)), ((λ _. called .1 .1 .1 .1 none), ((λ _. shown-left _ _ _ _ _ words), λ same. as-before _ _ _ _ _ _ _ _ _ _ answer totals same))))),
+      leaves-both-by _ _ _ _ answer words totals,
+      ((λ no. absurd (no refl)), ((λ _. called .1 .1 .1 .1 .0 none), ((λ _. called .1 .1 .1 .1 .1 none), λ same. as-before _ _ _ _ _ _ _ _ _ _ answer totals same))),
     )
 
 pub plan-spec : {M : Type 1} → statement M

@@ -5,6 +5,7 @@ use native.Mathlib.Omega.{arith}
 use lib.ListN.{length, length-take}
 use lib.Seq.{length-take-le}
 use Rattle.lent.proofs.Lent.{put, untouched}
+use Rattle.lent.proofs.Left.{leaves-four-by, answer-of, slice-of}
 use Rattle.accept.proofs.Accepted.{accepted-layout, well-formed}
 use Rattle.restore_plan.proofs.PlanTable.{as-before}
 use Rattle.replay_machine.specs.Calls.{restoreRefusal}
@@ -18,8 +19,8 @@ unfolding restoreRefusal
 returns c =
     let no = c .if1 .taken in
     let found = c .before .restore-refusal .ensures in (
-      found,
-      (untouched _ _ _ no, (untouched _ _ _ no, ((λ _. refl), (untouched _ _ _ no, (untouched _ _ _ no, ((λ none. absurd (no none)), ((λ none. absurd (no none)), λ same. as-before _ _ _ _ _ _ _ _ _ _ found (untouched _ _ _ no) same))))))),
+      leaves-four-by _ _ _ _ _ _ _ _ found (untouched _ _ _ no) (untouched _ _ _ no) (untouched _ _ _ no) (untouched _ _ _ no),
+      ((λ _. refl), ((λ none. absurd (no none)), ((λ none. absurd (no none)), λ same. as-before _ _ _ _ _ _ _ _ _ _ found (untouched _ _ _ no) same))),
     )
 
 -- what a call that is not refused may use
@@ -63,7 +64,7 @@ replay-words-requires c κs =
     let ok = well-formed _ (point .accepted) in
     let size = c .before .before .before .worker-count .ensures .0 in
     let planned = c .before .before .before .before .before .before .before .before .before .before .plan .ensures in
-    let front = front-words _ ok _ _ (point .event) _ _ _ _ size (planned .0 ∙ given .planned) (planned .1 .0) in (
+    let front = front-words _ ok _ _ (point .event) _ _ _ _ size (given .planned) (slice-of 0 (planned .0)) in (
       point .accepted,
       front-state _ ok _ _ (point .event) _ front,
       rw (size) (length-take-le _ _ (given .placed)),
@@ -81,10 +82,9 @@ returns-2 c =
     let ok = well-formed _ (point .accepted) in
     let size = c .before .before .before .before .before .before .before .before .worker-count .ensures .0 in
     let planned = c .before .before .before .before .before .before .before .before .before .before .before .before .before .before .before .plan .ensures in
-    let zero = planned .0 ∙ given .planned in
-    let words = rw (zero) at (planned .1 .0) in
-    let totals = rw (zero) at (planned .1 .1 .0) in
-    let front = front-words _ ok _ _ (point .event) _ _ _ _ size zero (planned .1 .0) in
+    let words = rw (given .planned) at (slice-of 0 (planned .0)) in
+    let totals = rw (given .planned) at (slice-of 1 (planned .0)) in
+    let front = front-words _ ok _ _ (point .event) _ _ _ _ size (given .planned) (slice-of 0 (planned .0)) in
     let stepped = c .before .before .before .before .replay-words .ensures in
     let positions = front-positions _ ok _ _ (point .event) _ _ _ _ _ front size (stepped .1) in
     let steps = front-steps _ ok _ _ (point .event) _ _ _ _ _ front size (stepped .0) in
@@ -94,29 +94,12 @@ returns-2 c =
     restored _ ok _ _ (point .event) _ _ _ _ _ _ _ _ _ _
     (words ∙ sym (put 0 _ _ refl)) (totals ∙ sym (put 0 _ _ refl)) (positions ∙ sym (put 0 _ _ refl)) (steps ∙ sym (put 0 _ _ refl)) in
     let answer = sym none ∙ found in
-    (answer, (words, (totals, ((λ no. absurd (no refl)), (positions, (steps, ((λ _. whole), ((λ _. planned .1 .1 .1 .1 .0 zero), λ same. as-before _ _ _ _ _ _ _ _ _ _ answer totals same))))))))
+    let floor = planned .1 .1 .0 (answer-of (planned .0) ∙ given .planned) in
+    (leaves-four-by _ _ _ _ _ _ _ _ answer words positions steps totals, ((λ no. absurd (no refl)), ((λ _. whole), ((λ _. floor), λ same. as-before _ _ _ _ _ _ _ _ _ _ answer totals same))))
 
 pub restore-and-replay-spec : {M : Type 1} → statement M
 restore-and-replay-spec =
     tie.close
-    (tie.spec
-    (λ c κs. search needs)
-    returns
-    (λ c κs. search needs)
-    worker-count-requires
-    (λ c. search needs)
-    (λ c. search needs)
-    mul-stepped
-    slice-reshare-prefix-replay-words
-    slice-aggregate-replay-words
-    slice-relend-prefix-replay-words
-    slice-aggregate-replay-words-2
-    slice-relend-prefix-replay-words-2
-    slice-aggregate-replay-words-3
-    replay-words-requires
-    (λ c. search needs)
-    (λ c. search needs)
-    (λ c. search needs)
-    same-length-4
-    (λ c. search needs)
-    returns-2)
+    (tie.spec (λ c κs. search needs) returns (λ c κs. search needs) worker-count-requires (λ c. search needs) (λ c. search needs) mul-stepped
+    slice-reshare-prefix-replay-words slice-aggregate-replay-words slice-relend-prefix-replay-words slice-aggregate-replay-words-2 slice-relend-prefix-replay-words-2
+    slice-aggregate-replay-words-3 replay-words-requires (λ c. search needs) (λ c. search needs) (λ c. search needs) same-length-4 (λ c. search needs) returns-2)

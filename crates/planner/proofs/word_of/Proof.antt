@@ -1,5 +1,5 @@
 -- `planner::word_of` meets its contract. Assumes nothing.
-use Rattle.planner.specs.Calls.{wordOf}
+use Rattle.lent.specs.Lent.{wordOf}
 use borrow.Author.Needs.{needs}
 use Rattle.planner.proofs.word_of.Statement.{statement}
 use Rattle.planner.proofs.word_of.Tie as tie

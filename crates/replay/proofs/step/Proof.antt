@@ -1,5 +1,6 @@
 -- `replay::step` meets its contract. Assumes nothing.
 use mathlib.Core.Path.{sym}
+use Rattle.lent.proofs.Left.{left-by}
 use Rattle.replay_machine.proofs.Call.{step-ok, step-refused, step-answer, step-positions}
 use borrow.Author.Needs.{needs}
 use Rattle.replay.proofs.step.Statement.{statement}
@@ -8,7 +9,7 @@ use Rattle.replay.proofs.step.Tie as tie
 returns : tie.Need-returns
 returns c =
     let none = step-refused _ _ _ _ (rw (c .before .step-refusal .ensures) at (c .if1 .taken)) in
-    rw (c .before .step-refusal .ensures) (sym (none .0), sym (none .1))
+    rw (c .before .step-refusal .ensures) (left-by (sym (none .0)) (sym (none .1)))
 
 advance-requires : tie.Need-advance-requires
 advance-requires c κs = step-ok _ _ _ _ (c .before .before .step-refusal .ensures) (c .before .if1 .left)
@@ -16,7 +17,8 @@ advance-requires c κs = step-ok _ _ _ _ (c .before .before .step-refusal .ensur
 returns-2 : tie.Need-returns-2
 returns-2 c =
     let given = step-ok _ _ _ _ (c .before .before .before .before .before .step-refusal .ensures) (c .before .before .before .before .if1 .left) in
-    rw (step-answer _ (given .0) _ _ (given .1) _, step-positions _ (given .0) _ _ (given .1) _) (c .before .before .advance .ensures)
+    let moved = c .before .before .advance .ensures in
+    rw (step-answer _ (given .0) _ _ (given .1) _, step-positions _ (given .0) _ _ (given .1) _) (left-by (moved .0) (moved .1))
 
 pub step-spec : {M : Type 1} → statement M
 step-spec =

@@ -10,19 +10,19 @@ use Rattle.replay.proofs.step_refusal.Tie as tie
 
 returns : tie.Need-returns
 unfolding stepRefusal orElse
-returns c = rw (← c .before .accept .ensures, ne-eqb _ _ (c .if1 .taken))
+returns c = rw (← c .before .accept .ensures .0, ne-eqb _ _ (c .if1 .taken))
 
 worker-refusal-requires : tie.Need-worker-refusal-requires
-worker-refusal-requires c κs = accepted-layout _ (sym (c .before .accept .ensures) ∙ c .if1 .left)
+worker-refusal-requires c κs = accepted-layout _ (sym (c .before .accept .ensures .0) ∙ c .if1 .left)
 
 state-refusal-requires : tie.Need-state-refusal-requires
-state-refusal-requires c κs = sym (c .before .before .accept .ensures) ∙ c .before .if1 .left
+state-refusal-requires c κs = sym (c .before .before .accept .ensures .0) ∙ c .before .if1 .left
 
 returns-2 : tie.Need-returns-2
 unfolding stepRefusal orElse
 returns-2 c =
     rw (
-      ← c .before .before .before .before .accept .ensures,
+      ← c .before .before .before .before .accept .ensures .0,
       eq-eqb _ _ (c .before .before .before .if1 .left),
       ← c .before .before .worker-refusal .ensures,
       ← c .before .state-refusal .ensures,

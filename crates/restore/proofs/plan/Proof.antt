@@ -10,6 +10,7 @@ use Rattle.lent.proofs.Lent.{written, untouched}
 use Rattle.restore_plan.specs.Calls.{foundPlan, planAnswer}
 use Rattle.restore_plan.proofs.Written.{plan-long}
 use Rattle.restore_plan.proofs.Floor.{floor-left}
+use Rattle.restore_plan.proofs.Shown.{shown-left}
 use Rattle.restore_plan.proofs.PlanTable.{plan-ok}
 use borrow.Author.Needs.{needs}
 use Rattle.restore.proofs.plan.Statement.{statement}
@@ -17,7 +18,7 @@ use Rattle.restore.proofs.plan.Tie as tie
 
 returns : tie.Need-returns
 unfolding planAnswer
-returns c = (c .before .plan-refusal .ensures, (rw (ne-eqb _ _ (c .if1 .taken)), (untouched _ _ _ (c .if1 .taken), ((λ no. refl), λ none. absurd (c .if1 .taken none)))))
+returns c = (c .before .plan-refusal .ensures, (rw (ne-eqb _ _ (c .if1 .taken)), (untouched _ _ _ (c .if1 .taken), ((λ no. refl), ((λ none. absurd (c .if1 .taken none)), λ none. absurd (c .if1 .taken none))))))
 
 worker-count-requires : tie.Need-worker-count-requires
 worker-count-requires c κs = accepted-layout _ (plan-ok (c .before .plan-refusal .ensures) (c .if1 .left) .search .line .breakpoint .accepted)
@@ -56,8 +57,9 @@ returns-2 c =
     let point = plan-ok found none .search .line .breakpoint in
     let given = c .before .before .before .before .before .before .before .before .before .before .before .before .before .before .args in
     let floor = floor-left _ (well-formed _ (point .accepted)) _ _ (point .event) (3 * size .result) _ (given .words .now) (answer .1) in
+    let shown = shown-left _ (3 * size .result) _ _ (given .words .now) (answer .1) in
     rw (answer .0)
-    (sym none ∙ found, (refl, (rw (answer .1, size .ensures .0) (written _ _ _ _ refl (plan-long _ _)), ((λ no. absurd (no refl)), λ _. floor))))
+    (sym none ∙ found, (refl, (rw (answer .1, size .ensures .0) (written _ _ _ _ refl (plan-long _ _)), ((λ no. absurd (no refl)), ((λ _. floor), λ _. shown)))))
 
 pub plan-spec : {M : Type 1} → statement M
 plan-spec =

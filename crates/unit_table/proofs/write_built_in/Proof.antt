@@ -8,8 +8,8 @@ use borrow.Author.Needs.{needs}
 use lib.ListN.{length, drop, length-set}
 use Rattle.ranges.specs.Fold.{tabulate}
 use Rattle.ranges.proofs.Tabulate.{store-more, full-table}
-use Rattle.unit_table.specs.Table.{tableWords}
-use Rattle.unit_table.proofs.BuiltIn.{wordAt, words-are}
+use Rattle.unit_table.specs.Table.{tableWords, builtInWords}
+use Rattle.unit_table.proofs.BuiltIn.{wordAt, words-are, built-in-loads}
 use Rattle.unit_table.proofs.write_built_in.Statement.{statement}
 use Rattle.unit_table.proofs.write_built_in.Tie as tie
 
@@ -52,23 +52,11 @@ returns c =
     let inv = c .before .loop .inv in
     let given = c .before .before in
     let all : c .before .loop .j ≡ tableWords = le-antisymm (inv .0) (c .loop-test .left) in
-    inv .2 ∙ full-table wordAt (given .args .table .now) (c .before .loop .j) (omega (arith, given .pre)) ∙ rw all words-are
+    let wrote : c .before .loop .table ≡ builtInWords = inv .2 ∙ full-table wordAt (given .args .table .now) (c .before .loop .j) (omega (arith, given .pre)) ∙ rw all words-are in
+    (wrote, rw wrote built-in-loads)
 
 pub write-built-in-spec : {M : Type 1} → statement M
 write-built-in-spec =
     tie.close
-    (tie.spec
-    Inv-loop
-    μ-loop
-    loop-holds
-    (λ c. search needs)
-    (λ c. search needs)
-    index-1-table
-    index-2-table
-    (λ c. search needs)
-    slice-write-table
-    add-j
-    loop-less
-    loop-again
-    same-length
-    returns)
+    (tie.spec Inv-loop μ-loop loop-holds (λ c. search needs) (λ c. search needs) index-1-table index-2-table (λ c. search needs) slice-write-table add-j loop-less
+    loop-again same-length returns)

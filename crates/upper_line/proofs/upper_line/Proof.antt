@@ -4,6 +4,7 @@ use lib.Seq.{length-take-le}
 use native.Mathlib.Omega.{arith}
 use Rattle.accept.proofs.Accepted.{accepted-layout, well-formed}
 use Rattle.lent.proofs.Lent.{written, untouched}
+use Rattle.lent.proofs.Left.{leaves-by}
 use Rattle.upper_line.proofs.UpperLine.{upper-is}
 use Rattle.refusals.proofs.Allowed.{line-ok}
 use borrow.Author.Needs.{needs}
@@ -11,7 +12,7 @@ use Rattle.upper_line.proofs.upper_line.Statement.{statement}
 use Rattle.upper_line.proofs.upper_line.Tie as tie
 
 returns : tie.Need-returns
-returns c = (c .before .line-refusal .ensures, untouched _ _ _ (c .if1 .taken))
+returns c = leaves-by _ _ (c .before .line-refusal .ensures) (untouched _ _ _ (c .if1 .taken))
 
 worker-count-requires : tie.Need-worker-count-requires
 worker-count-requires c κs = accepted-layout _ (line-ok (c .before .line-refusal .ensures) (c .if1 .left) .breakpoint .accepted)
@@ -38,10 +39,9 @@ returns-2 c =
     let found = c .before .before .before .before .before .before .line-refusal .ensures in
     let none = c .before .before .before .before .before .if1 .left in
     let point = line-ok found none .breakpoint in
-    let upper = upper-is _ (well-formed _ (point .accepted)) _ _ (point .event) in (
-      sym none ∙ found,
-      rw (c .before .before .upper-into .ensures, c .before .before .before .before .worker-count .ensures .0) (written _ _ _ _ refl (upper .isCut .long)),
-    )
+    let upper = upper-is _ (well-formed _ (point .accepted)) _ _ (point .event) in
+    leaves-by _ _ (sym none ∙ found)
+    (rw (c .before .before .upper-into .ensures, c .before .before .before .before .worker-count .ensures .0) (written _ _ _ _ refl (upper .isCut .long)))
 
 pub upper-line-spec : {M : Type 1} → statement M
 upper-line-spec =

@@ -5,6 +5,7 @@ use native.Mathlib.Omega.{arith}
 use borrow.Author.Needs.{scaled-fits, needs}
 use lib.ListN.{length, length-take, length-drop}
 use Rattle.log.specs.Layout.{workersOf}
+use Rattle.lent.proofs.Left.{answer-of, slice-of}
 use Rattle.accept.proofs.Accepted.{well-formed}
 use Rattle.replay_machine.specs.Machine.{stepWords}
 use Rattle.replay.proofs.Storing.{Storing, storing-begin, storing-end}
@@ -74,7 +75,7 @@ loop-again c =
     let inv = c .before .before .before .before .before .before .before .before .before .before .before .loop .inv in
     let called = c .before .before .before .before .before .before .before .step .ensures in
     let more = c .before .before .before .before .before .before .before .before .before .before .loop-test .taken in
-    let stored = step-stored _ (given .0) _ _ _ _ _ (given .2) (given .3) _ _ _ (inv .0) more _ _ _ _ (called .0) (called .1) (inv .1) refl in
+    let stored = step-stored _ (given .0) _ _ _ _ _ (given .2) (given .3) _ _ _ (inv .0) more _ _ _ _ (answer-of called) (slice-of 0 called) (inv .1) refl in
     (rw (c .before .before .store .ensures) stored, next-place _ _ _ (inv .1))
 
 same-length : tie.Need-same-length Inv-loop μ-loop

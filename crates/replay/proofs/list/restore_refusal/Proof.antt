@@ -9,11 +9,11 @@ use Rattle.replay.proofs.list.restore_refusal.Tie as tie
 returns : tie.Need-returns
 unfolding restoreRefusal
 returns c =
-    let is = c .before .accept .ensures in
+    let is = c .before .accept .ensures .0 in
     is ∙ sym (plan-refused-log _ _ _ _ _ _ _ (λ e. c .if1 .taken (is ∙ e)))
 
 others-refusal-requires : tie.Need-others-refusal-requires
-others-refusal-requires c κs = sym (c .before .accept .ensures) ∙ c .if1 .left
+others-refusal-requires c κs = sym (c .before .accept .ensures .0) ∙ c .if1 .left
 
 returns-2 : tie.Need-returns-2
 unfolding restoreRefusal

@@ -1,6 +1,7 @@
 -- `replay::list::steps` meets its contract. Assumes nothing.
 use mathlib.Core.Path.{refl, sym, _∙_}
 use Rattle.lent.proofs.Lent.{words-ok, written, whole, untouched}
+use Rattle.lent.proofs.Left.{leaves-both-by}
 use Rattle.replay_machine.proofs.Lists.{after-long}
 use Rattle.replay_machine.proofs.Call.{steps-ok}
 use Rattle.replay.proofs.Storing.{answers-length}
@@ -13,7 +14,7 @@ steps-refusal-requires c κs = search needs
 
 returns : tie.Need-returns
 returns c =
-    (rw (← c .before .before .before .words-refusal .ensures) (c .before .steps-refusal .ensures), (untouched _ _ _ (c .if1 .taken), untouched _ _ _ (c .if1 .taken)))
+    leaves-both-by _ _ _ _ (rw (← c .before .before .before .words-refusal .ensures) (c .before .steps-refusal .ensures)) (untouched _ _ _ (c .if1 .taken)) (untouched _ _ _ (c .if1 .taken))
 
 advance-each-requires : tie.Need-advance-each-requires
 advance-each-requires c κs =
@@ -24,10 +25,9 @@ returns-2 : tie.Need-returns-2
 returns-2 c =
     let found = c .before .before .before .before .before .before .before .before .steps-refusal .ensures in
     let none = c .before .before .before .before .before .before .before .if1 .left in
-    let left = c .before .before .before .before .advance-each .ensures in (
-      sym none ∙ rw (← c .before .before .before .before .before .before .before .before .before .before .words-refusal .ensures) found,
-      (left .1 ∙ whole _ _ _ refl (after-long _ _ _ _ _), left .0 ∙ written _ _ _ _ refl (answers-length _ _ _ _)),
-    )
+    let left = c .before .before .before .before .advance-each .ensures in
+    leaves-both-by _ _ _ _ (sym none ∙ rw (← c .before .before .before .before .before .before .before .before .before .before .words-refusal .ensures) found)
+    (left .1 ∙ whole _ _ _ refl (after-long _ _ _ _ _)) (left .0 ∙ written _ _ _ _ refl (answers-length _ _ _ _))
 
 pub steps-spec : {M : Type 1} → statement M
 steps-spec =
