@@ -19,6 +19,9 @@ Inv-loop log w list count start events j₀ j = Sought (listedFault (workersOf l
 abbrev μ-loop : tie.MeasureT-loop
 μ-loop log w list count start events j₀ j = count - j
 
+loop-holds : tie.Need-loop-holds Inv-loop μ-loop
+loop-holds c = sought-none
+
 -- the event that number j of the list stands for
 it : (c : tie.After-event-in-arg Inv-loop μ-loop)
     → NamesAnother (workersOf (c .before .before .before .before .before .before .args .log .now)) (c .before .before .before .before .before .before .args .w)
@@ -62,20 +65,7 @@ returns-2 c = sought-end (c .before .loop .inv) (c .loop-test .left) refl
 pub listed-fault-spec : {M : Type 1} → statement M
 listed-fault-spec =
     tie.close
-    (tie.spec
-    Inv-loop
-    μ-loop
-    (λ c κs. search needs)
-    (λ c κs. search needs)
-    (λ c. search needs)
-    (λ c. sought-none)
-    (λ c. omega arith)
+    (tie.spec Inv-loop μ-loop (λ c κs. search needs) (λ c κs. search needs) (λ c. search needs) loop-holds (λ c. omega arith)
     (λ c. omega (arith, c .loop-test .taken, c .before .before .before .before .before .pre .1))
     (λ c. omega (arith, it c .within, count-field _ (c .before .before .before .before .before .before .pre .0) (c .before .before .before .before .before .before .args .w) .1))
-    event-in-requires
-    naming-fault-requires
-    returns
-    (λ c. omega arith)
-    (λ c. omega arith)
-    loop-again
-    returns-2)
+    event-in-requires naming-fault-requires returns (λ c. omega arith) (λ c. omega arith) loop-again returns-2)
