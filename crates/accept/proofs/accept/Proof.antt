@@ -1,4 +1,5 @@
--- `accept::accept` meets its contract. Assumes nothing.
+-- `accept::accept` meets its contract: the content is tested where the layout gives 0, so the number is the first that is not 0; `once` and
+-- `twice` tell what 0 and 24 mean for the receives of a form 2 log. Assumes nothing.
 use mathlib.Core.Path.{sym, _∙_}
 use borrow.Author.Tests.{eq-eqb, ne-eqb}
 use Rattle.lent.specs.Lent.{orElse}

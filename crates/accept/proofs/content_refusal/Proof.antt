@@ -1,4 +1,5 @@
--- `accept::content_refusal` meets its contract. Assumes nothing.
+-- `accept::content_refusal` meets its contract: where 7 to 11 give 0 the log has what test 24 requires (`messages`), and that test decides
+-- between 24 and 0. Assumes nothing.
 use mathlib.Core.Path.{sym, _∙_}
 use borrow.Author.Tests.{eq-eqb, ne-eqb}
 use Rattle.lent.specs.Lent.{orElse}

@@ -1,4 +1,5 @@
--- `accept::events_refusal` meets its contract. Assumes nothing.
+-- `accept::events_refusal` meets its contract: where the one pass finds no fault none of 7 to 10 applies (`quick-none`); else each branch
+-- is taken for the first of the four tests that fails. Assumes nothing.
 use mathlib.Core.Path.{_≡_, sym, _∙_}
 use mathlib.Core.Bool.{false}
 use Rattle.ranges.proofs.Bools.{said-false}

@@ -1,4 +1,5 @@
--- `accept::records_refusal` meets its contract. Assumes nothing.
+-- `accept::records_refusal` meets its contract: where 7 to 10 give a number it is returned; else test 11 decides between 11 and 0.
+-- Assumes nothing.
 use borrow.Author.Tests.{eq-eqb, ne-eqb}
 use Rattle.lent.specs.Lent.{orElse}
 use Rattle.accept.specs.Refusal.{recordsRefusal}

@@ -1,4 +1,4 @@
--- `bytes_le::read1` meets its contract. Assumes nothing.
+-- `bytes_le::read1` meets its contract: the number in 1 byte is 256 ^ 0 times that byte, which is the byte itself. Assumes nothing.
 use native.Mathlib.Nat.{add-zero}
 use native.Mathlib.Omega.{arith}
 use Rattle.bytes_le.specs.Little.{le}

@@ -1,4 +1,5 @@
--- `bytes_le::read2` meets its contract. Assumes nothing.
+-- `bytes_le::read2` meets its contract: `wide` gives each byte, below 256, so the first plus 256 times the second is `le 2` and fits 32
+-- bits. Assumes nothing.
 use native.Mathlib.Nat.{add-zero}
 use native.Mathlib.Omega.{arith}
 use Rattle.bytes_le.specs.Little.{le}

@@ -1,4 +1,5 @@
--- `bytes_le::read4` meets its contract. Assumes nothing.
+-- `bytes_le::read4` meets its contract: `wide` gives each byte, below 256, so the bytes times 1, 256, 256 ^ 2 and 256 ^ 3 add up to `le 4`
+-- and fit 32 bits. Assumes nothing.
 use native.Mathlib.Nat.{add-zero}
 use native.Mathlib.Omega.{arith}
 use Rattle.bytes_le.specs.Little.{le}

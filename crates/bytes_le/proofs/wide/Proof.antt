@@ -1,4 +1,4 @@
--- `bytes_le::wide` meets its contract. Assumes nothing.
+-- `bytes_le::wide` meets its contract: an element of a slice of bytes is below 256, so it is the same number in 32 bits. Assumes nothing.
 use native.Mathlib.Omega.{arith}
 use borrow.Author.Needs.{needs}
 use Rattle.bytes_le.proofs.wide.Statement.{statement}

@@ -1,4 +1,5 @@
--- `bytes_le::write2` meets its contract. Assumes nothing.
+-- `bytes_le::write2` meets its contract: the two stores are the bytes of `bytesOf 2` stored one after the other from `at` on, and
+-- `stored-at` says what these leave. Assumes nothing.
 use mathlib.Core.Path.{_≡_}
 use Prim.Native.Nat.{suc, _+_}
 use native.Mathlib.Omega.{arith}

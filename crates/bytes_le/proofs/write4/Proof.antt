@@ -1,4 +1,5 @@
--- `bytes_le::write4` meets its contract. Assumes nothing.
+-- `bytes_le::write4` meets its contract: the four stores are the bytes of `bytesOf 4` from `at` on (`stored-at`), since x / 65536 is
+-- x / 256 / 256, and x / 16777216 is x / 256 / 256 / 256. Assumes nothing.
 use mathlib.Core.Path.{_≡_}
 use Prim.Native.Nat.{suc, _+_, _/_, _%_}
 use native.Mathlib.Omega.{arith}

@@ -1,4 +1,5 @@
--- `causality::cut_test` meets its contract. Assumes nothing.
+-- `causality::cut_test` meets its contract: the number is `test_refusal`'s; where it is 0 (`test-ok`) the first n words are a cut, and it
+-- is consistent exactly where `some_lacks` says no (`tells-consistent`). Assumes nothing.
 use mathlib.Core.Path.{sym, _∙_}
 use borrow.Author.Tests.{ne-eqb}
 use Rattle.accept.proofs.Accepted.{well-formed}

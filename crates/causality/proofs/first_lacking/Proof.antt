@@ -1,4 +1,5 @@
--- `causality::first_lacking` meets its contract. Assumes nothing.
+-- `causality::first_lacking` meets its contract: before turn k the send of every receive among events from + 1 .. k is within the cut; the
+-- first receive whose send is not ends the loop. Assumes nothing.
 use Prim.Native.Nat.{_-_}
 use native.Mathlib.Omega.{arith}
 use Rattle.ranges.proofs.First.{Looked, looked-none, looked-more, looked-found, looked-end}

@@ -1,4 +1,5 @@
--- `causality::is_lacking` meets its contract. Assumes nothing.
+-- `causality::is_lacking` meets its contract: the peer of an event is a worker of the log, so it has a word in the cut; a send names 0,
+-- which is above no word, so one comparison serves both kinds (`lacks-any`). Assumes nothing.
 use native.Mathlib.Nat.{lt-of-lt-of-le}
 use native.Mathlib.Omega.{arith}
 use Rattle.log.proofs.Read.{count-field}

@@ -1,4 +1,5 @@
--- `causality::note` meets its contract. Assumes nothing.
+-- `causality::note` meets its contract: the word of a receive's peer becomes the larger of itself and the send named; a send names 0, and
+-- the larger is then the word as it was (`noted-any`). Assumes nothing.
 use native.Mathlib.Omega.{arith}
 use Rattle.log.proofs.Read.{count-field}
 use Rattle.accept.proofs.Accepted.{accepted-layout}

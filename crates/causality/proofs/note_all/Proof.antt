@@ -1,4 +1,5 @@
--- `causality::note_all` meets its contract. Assumes nothing.
+-- `causality::note_all` meets its contract: before turn k the words are what events from + 1 .. k name of each worker, which is 0 for no
+-- events (`row-none`) and is kept by one event more (`row-more`). Assumes nothing.
 use mathlib.Core.Path.{_≡_, sym, _∙_}
 use Prim.Native.Nat.{_≤_, _-_}
 use native.Mathlib.Nat.{le-antisymm}

@@ -1,4 +1,5 @@
--- `causality::row_into` meets its contract. Assumes nothing.
+-- `causality::row_into` meets its contract: `clear` leaves n words of 0, as `note_all` requires, and `note_all` leaves the row.
+-- Assumes nothing.
 use borrow.Author.Needs.{needs}
 use Rattle.causality.proofs.row_into.Statement.{statement}
 use Rattle.causality.proofs.row_into.Tie as tie

@@ -1,4 +1,5 @@
--- `causality::some_lacks` meets its contract. Assumes nothing.
+-- `causality::some_lacks` meets its contract: before turn w none of the first w workers has a receive within the cut whose send is not; the
+-- first worker that has one ends the loop with yes. Assumes nothing.
 use Prim.Native.Nat.{_-_}
 use native.Mathlib.Omega.{arith}
 use Rattle.ranges.proofs.Any.{Sought, sought-none, sought-more, sought-found, sought-end}

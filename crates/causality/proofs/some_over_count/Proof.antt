@@ -1,4 +1,5 @@
--- `causality::some_over_count` meets its contract. Assumes nothing.
+-- `causality::some_over_count` meets its contract: before turn w none of the first w words is over its worker's event count; the first word
+-- that is ends the loop with yes. Assumes nothing.
 use mathlib.Core.Path.{refl}
 use Prim.Native.Nat.{_-_}
 use native.Mathlib.Omega.{arith}

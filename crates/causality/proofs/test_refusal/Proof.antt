@@ -1,4 +1,5 @@
--- `causality::test_refusal` meets its contract. Assumes nothing.
+-- `causality::test_refusal` meets its contract: the log's number, then 14 or `others`, is returned where it is not 0; past these the log is
+-- accepted and has a word for each worker, so `some_over_count` decides 16. Assumes nothing.
 use mathlib.Core.Path.{_≡_, sym, _∙_}
 use borrow.Author.Tests.{ne-eqb}
 use lib.ListN.{length}

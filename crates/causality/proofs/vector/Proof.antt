@@ -1,4 +1,5 @@
--- `causality::vector` meets its contract. Assumes nothing.
+-- `causality::vector` meets its contract: the number is `line_refusal`'s; where it is 0 (`line-ok`) the event is one of the log's and the
+-- vector is written to the first n words, else no word changes (`untouched`). Assumes nothing.
 use mathlib.Core.Path.{refl, sym, _∙_}
 use lib.Seq.{length-take-le}
 use native.Mathlib.Omega.{arith}

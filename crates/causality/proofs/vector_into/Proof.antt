@@ -1,4 +1,5 @@
--- `causality::vector_into` meets its contract. Assumes nothing.
+-- `causality::vector_into` meets its contract: the row of events 1 .. e has the largest send named of each other worker, and word i is then
+-- set to e, which is the vector (`row-vector`). Assumes nothing.
 use lib.ListN.{length-set}
 use Rattle.causality.proofs.Row.{row-room, row-vector}
 use borrow.Author.Needs.{needs}

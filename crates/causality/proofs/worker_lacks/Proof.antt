@@ -1,4 +1,5 @@
--- `causality::worker_lacks` meets its contract. Assumes nothing.
+-- `causality::worker_lacks` meets its contract: a receive of worker w within the cut has its send outside it if and only if `first_lacking`
+-- stops before the end of the cut (`first-any`). Assumes nothing.
 use native.Mathlib.Omega.{arith}
 use Rattle.ranges.proofs.First.{first-any}
 use Rattle.accept.proofs.Accepted.{well-formed}

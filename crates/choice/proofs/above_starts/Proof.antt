@@ -1,4 +1,5 @@
--- `choice::above_starts` meets its contract. Assumes nothing.
+-- `choice::above_starts` meets its contract: the branch is taken for a receive without its data, and there `aboveStarts` is 0; else it is
+-- 2 ^ 32. Assumes nothing.
 use native.Mathlib.Omega.{arith}
 use Rattle.choice.specs.Inner.Compared.{aboveStarts}
 use borrow.Author.Needs.{needs}

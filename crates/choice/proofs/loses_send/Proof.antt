@@ -1,4 +1,5 @@
--- `choice::loses_send` meets its contract. Assumes nothing.
+-- `choice::loses_send` meets its contract: a start is below 2 ^ 32, so the sum is at most the start exactly for a receive without its data
+-- whose send is (`compared-send`). Assumes nothing.
 use native.Mathlib.Omega.{arith}
 use Rattle.choice.proofs.Startable.{compared-send}
 use borrow.Author.Needs.{needs}

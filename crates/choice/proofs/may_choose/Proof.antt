@@ -1,4 +1,5 @@
--- `choice::may_choose` meets its contract. Assumes nothing.
+-- `choice::may_choose` meets its contract: the branch is taken where the worker has no checkpoint c; any other may be chosen exactly where
+-- it is not withdrawn. Assumes nothing.
 use borrow.Author.Tests.{le-leb, lt-leb}
 use Rattle.accept.proofs.Accepted.{accepted-layout}
 use Rattle.choice.specs.Choice.{mayChoose}

@@ -1,4 +1,4 @@
--- `cost::counted_as` meets its contract. Assumes nothing.
+-- `cost::counted_as` meets its contract: each arm of the match tells the kind, and gives what `countedAs` has for it. Assumes nothing.
 use borrow.Author.Needs.{needs}
 use Rattle.cost.proofs.counted_as.Statement.{statement}
 use Rattle.cost.proofs.counted_as.Tie as tie

@@ -1,4 +1,5 @@
--- `cost::counted_units` meets its contract. Assumes nothing.
+-- `cost::counted_units` meets its contract: at most 65,535 events at no more than 1,000 units, as a loaded table has, keep each product and
+-- the sum within 64 bits, and `units_for` gives the three units. Assumes nothing.
 use mathlib.Core.Path.{_≡_}
 use Prim.Native.Nat.{ℕ, _+_, _-_, _*_, _≤_}
 use native.Mathlib.Omega.{arith}

@@ -1,4 +1,4 @@
--- `cost::cut_in` meets its contract. Assumes nothing.
+-- `cost::cut_in` meets its contract: the word read is the first of the worker's three, at 3 × w. Assumes nothing.
 use mathlib.Core.Path.{refl}
 use Rattle.cost.specs.Words.{cutIn}
 use borrow.Author.Needs.{needs}

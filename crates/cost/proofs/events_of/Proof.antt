@@ -1,4 +1,5 @@
--- `cost::events_of` meets its contract. Assumes nothing.
+-- `cost::events_of` meets its contract: after w turns `events` is the sum of cut minus start over the first w workers, and this fits 64
+-- bits (`held-worker`). Assumes nothing.
 use mathlib.Core.Path.{_≡_, sym}
 use Prim.Native.Nat.{_≤_, _-_}
 use native.Mathlib.Omega.{arith}

@@ -1,4 +1,4 @@
--- `cost::identifier_in` meets its contract. Assumes nothing.
+-- `cost::identifier_in` meets its contract: the word read is the third of the worker's three, at 3 × w + 2. Assumes nothing.
 use mathlib.Core.Path.{refl}
 use Rattle.cost.specs.Words.{identifierIn}
 use borrow.Author.Needs.{needs}

@@ -1,4 +1,4 @@
--- `cost::start_in` meets its contract. Assumes nothing.
+-- `cost::start_in` meets its contract: the word read is the second of the worker's three, at 3 × w + 1. Assumes nothing.
 use mathlib.Core.Path.{refl}
 use Rattle.cost.specs.Words.{startIn}
 use borrow.Author.Needs.{needs}

@@ -1,4 +1,5 @@
--- `cost::units_of` meets its contract. Assumes nothing.
+-- `cost::units_of` meets its contract: after w turns `units` is the sum of the units of the first w workers, and by a loaded table it fits
+-- 64 bits (`held-units`). Assumes nothing.
 use mathlib.Core.Path.{_≡_, sym}
 use Prim.Native.Nat.{_-_, _<_, _≤_}
 use native.Mathlib.Omega.{arith}

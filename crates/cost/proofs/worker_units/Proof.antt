@@ -1,4 +1,5 @@
--- `cost::worker_units` meets its contract. Assumes nothing.
+-- `cost::worker_units` meets its contract: up to event k `counts` is the number of receives without data after the start plus 2 ^ 32 times
+-- that of those with it; both are below 2 ^ 32, so remainder and quotient are these numbers. Assumes nothing.
 use mathlib.Core.Path.{_≡_, sym, _∙_}
 use Prim.Native.Nat.{_+_, _-_, _<_, _≤_}
 use native.Mathlib.Omega.{arith}

@@ -1,4 +1,5 @@
--- `cost::write_starts` meets its contract. Assumes nothing.
+-- `cost::write_starts` meets its contract: after w turns position v, for v below w, is word 3 × v + 1, the start of worker v, and the
+-- others are as lent. Assumes nothing.
 use mathlib.Core.Path.{_≡_, refl, _∙_}
 use mathlib.Core.List.{_++_}
 use Prim.Native.Nat.{_≤_, _-_}

@@ -1,4 +1,5 @@
--- `covering::covers` meets its contract. Assumes nothing.
+-- `covering::covers` meets its contract: the number is that of `accept`, or else `others`, and where it is not 0 the answer is no; at 0 the
+-- log is well formed, and `covers-said` and `none-said` give both claims from `is_covering`. Assumes nothing.
 use mathlib.Core.Path.{sym, _∙_}
 use borrow.Author.Tests.{ne-eqb}
 use Rattle.lent.proofs.Lent.{or-else-zero}

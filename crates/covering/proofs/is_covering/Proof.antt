@@ -1,4 +1,5 @@
--- `covering::is_covering` meets its contract. Assumes nothing.
+-- `covering::is_covering` meets its contract: where no worker is without the identifier the words are the indices of its checkpoints, and
+-- words past the last worker do not change what is startable (`startable-words`). Assumes nothing.
 use mathlib.Core.Path.{_∙_}
 use native.Mathlib.Omega.{arith}
 use Rattle.accept.proofs.Accepted.{well-formed}

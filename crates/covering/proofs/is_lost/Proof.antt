@@ -1,4 +1,5 @@
--- `covering::is_lost` meets its contract. Assumes nothing.
+-- `covering::is_lost` meets its contract: an event at or before its worker's start is not lost; the peer of a later one is a worker of the
+-- log, so `starts` has a word for it, and `loses_send` decides. Assumes nothing.
 use Prim.Native.Nat.{_<_, _≤_}
 use native.Mathlib.Omega.{arith}
 use borrow.Author.Tests.{le-leb, lt-leb}

@@ -1,4 +1,5 @@
--- `covering::is_set` meets its contract. Assumes nothing.
+-- `covering::is_set` meets its contract: the branch is taken where the checkpoint may not be chosen; else its identifier decides.
+-- Assumes nothing.
 use borrow.Author.Tests.{not-true, not-false}
 use Rattle.accept.proofs.Accepted.{accepted-layout}
 use Rattle.covering.specs.Covering.{isSet}

@@ -1,4 +1,5 @@
--- `covering::is_startable` meets its contract. Assumes nothing.
+-- `covering::is_startable` meets its contract: after w turns none of the first w workers has an event after its start that loses its send;
+-- the turn that finds one returns no, the end of the loop yes. Assumes nothing.
 use mathlib.Core.Path.{ap}
 use mathlib.Core.Bool.{not}
 use Prim.Native.Nat.{_-_}

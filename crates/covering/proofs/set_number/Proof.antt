@@ -1,4 +1,5 @@
--- `covering::set_number` meets its contract. Assumes nothing.
+-- `covering::set_number` meets its contract: before each turn no checkpoint below number c has the identifier and may be chosen; the first
+-- that does, or else the number after the last, is `firstSet`. Assumes nothing.
 use mathlib.Core.Path.{_≡_, sym, _∙_}
 use mathlib.Core.Bool.{false}
 use Prim.Native.Nat.{_≤_, _-_, _+_}

@@ -1,4 +1,5 @@
--- `covering::some_without_set` meets its contract. Assumes nothing.
+-- `covering::some_without_set` meets its contract: after w turns each of the first w workers has a checkpoint that may be chosen and has
+-- the identifier, the first w words are their indices, and the others are as lent. Assumes nothing.
 use mathlib.Core.Path.{_≡_, sym, _∙_, ap}
 use mathlib.Core.Bool.{false, false≢true}
 use mathlib.Core.List.{_++_}

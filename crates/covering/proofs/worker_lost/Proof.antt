@@ -1,4 +1,5 @@
--- `covering::worker_lost` meets its contract. Assumes nothing.
+-- `covering::worker_lost` meets its contract: after k turns none of the first k events is after the start and loses its send, and the cut
+-- of all events has all events of w (`all-at`). Assumes nothing.
 use mathlib.Core.Path.{sym, _∙_}
 use Prim.Native.Nat.{_-_}
 use native.Mathlib.Omega.{arith}

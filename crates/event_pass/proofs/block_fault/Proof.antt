@@ -1,4 +1,5 @@
--- `event_pass::block_fault` meets its contract. Assumes nothing.
+-- `event_pass::block_fault` meets its contract: after w turns none of the first w workers has an event with a fault up to the end of its
+-- block; the turn that finds one returns yes, the end of the loop no. Assumes nothing.
 use Prim.Native.Nat.{_+_, _-_}
 use native.Mathlib.Omega.{arith}
 use borrow.Author.Needs.{needs}

@@ -1,4 +1,5 @@
--- `event_pass::events_fault` meets its contract. Assumes nothing.
+-- `event_pass::events_fault` meets its contract: a worker with no event after `first` has nothing more to test; else a fault of the block
+-- is an event's own, or one of a listed event (`listed-decide`). Assumes nothing.
 use mathlib.Core.Path.{_≡_, sym, _∙_}
 use Prim.Native.Nat.{_+_, min}
 use native.Mathlib.Omega.{arith}

@@ -1,4 +1,5 @@
--- `event_pass::list_naming` meets its contract. Assumes nothing.
+-- `event_pass::list_naming` meets its contract: up to event k no event of the block has a fault of its own, which would be one of 7 to 10
+-- (`own-decides`), the first `count` words list those that name another, and `before` is event k's stamp. Assumes nothing.
 use mathlib.Core.Path.{_≡_, sym, _∙_, ap}
 use mathlib.Core.Bool.{false≢true}
 use Prim.Native.Nat.{_+_, _-_, _<_, _≤_}

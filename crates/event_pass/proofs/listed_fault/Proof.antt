@@ -1,4 +1,5 @@
--- `event_pass::listed_fault` meets its contract. Assumes nothing.
+-- `event_pass::listed_fault` meets its contract: after j turns each of the first j listed events is a receive that passes tests 9 and 10;
+-- the turn that finds another returns yes, the end of the loop no. Assumes nothing.
 use mathlib.Core.Path.{_≡_, refl, _∙_, ap}
 use Prim.Native.Nat.{_+_, _-_}
 use native.Mathlib.Omega.{arith}

@@ -1,4 +1,5 @@
--- `event_pass::most_events` meets its contract. Assumes nothing.
+-- `event_pass::most_events` meets its contract: after w turns `most` is the largest event count of the first w workers, and by test 5 no
+-- count is over 65,535. Assumes nothing.
 use mathlib.Core.Path.{_≡_, sym, _∙_}
 use Prim.Native.Nat.{_-_, _≤_}
 use native.Mathlib.Omega.{arith}

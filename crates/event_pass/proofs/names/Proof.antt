@@ -1,4 +1,5 @@
--- `event_pass::names` meets its contract. Assumes nothing.
+-- `event_pass::names` meets its contract: the branch is taken where the event's send is 0, and there `names` is 0; else it is 1, and both
+-- are at most 1. Assumes nothing.
 use native.Mathlib.Omega.{arith}
 use borrow.Author.Tests.{eq-eqb, ne-eqb}
 use Rattle.event_pass.specs.Inner.Message.{isNaming, names}

@@ -1,4 +1,5 @@
--- `event_pass::naming_fault` meets its contract. Assumes nothing.
+-- `event_pass::naming_fault` meets its contract: the branches are taken where e is no receive, where it names no send, and where that send
+-- is not to w; where none is, the stamps decide. Assumes nothing.
 use borrow.Author.Tests.{eq-eqb, ne-eqb}
 use Rattle.ranges.proofs.Bools.{said-false, said-true}
 use Rattle.record_tests.specs.Records.{sendOf, sourceFault, orderFault}

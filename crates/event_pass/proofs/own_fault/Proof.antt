@@ -1,4 +1,5 @@
--- `event_pass::own_fault` meets its contract. Assumes nothing.
+-- `event_pass::own_fault` meets its contract: a branch is taken where spare, peer or stamp is the first to fail; of the events left, one
+-- that names another passes, and any other exactly where it is a send. Assumes nothing.
 use borrow.Author.Tests.{eq-eqb, ne-eqb, le-leb, lt-leb}
 use Rattle.event_pass.specs.Inner.Message.{isNaming, ownFault}
 use borrow.Author.Needs.{needs}

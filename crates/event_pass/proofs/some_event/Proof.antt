@@ -1,4 +1,5 @@
--- `event_pass::some_event` meets its contract. Assumes nothing.
+-- `event_pass::some_event` meets its contract: before each turn no event among the first `first` of any worker has a fault; once `first`
+-- reaches the largest event count these are all events (`within-all`). Assumes nothing.
 use mathlib.Core.Path.{_≡_, sym, _∙_}
 use mathlib.Core.Bool.{false}
 use Prim.Native.Nat.{_-_}

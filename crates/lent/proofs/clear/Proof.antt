@@ -1,4 +1,4 @@
--- `lent::clear` meets its contract. Assumes nothing.
+-- `lent::clear` meets its contract: after w turns the first w words are 0 and the others as lent. Assumes nothing.
 use mathlib.Core.Path.{_∙_}
 use mathlib.Core.List.{append-nil}
 use native.Mathlib.Nat.{le-antisymm}

@@ -1,4 +1,5 @@
--- `lent::copy` meets its contract. Assumes nothing.
+-- `lent::copy` meets its contract: after w turns the first w words are those of `from` and the others as lent, and `from` has as many words
+-- as `to`. Assumes nothing.
 use mathlib.Core.Path.{_≡_, refl, sym, _∙_}
 use mathlib.Core.List.{_++_}
 use Prim.Native.Nat.{_≤_, _-_}

@@ -1,4 +1,5 @@
--- `lent::copy_bytes` meets its contract. Assumes nothing.
+-- `lent::copy_bytes` meets its contract: after k turns the first k bytes of `from` stand from place `at` on, and every other byte is as
+-- lent. Assumes nothing.
 use mathlib.Core.Path.{_≡_, refl, sym, _∙_}
 use Prim.Native.Nat.{_≤_, _-_}
 use native.Mathlib.Omega.{arith}

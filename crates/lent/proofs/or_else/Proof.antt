@@ -1,4 +1,5 @@
--- `lent::or_else` meets its contract. Assumes nothing.
+-- `lent::or_else` meets its contract: the branch is taken where the first number is not 0, and there `orElse` is that number; else it is
+-- the second. Assumes nothing.
 use mathlib.Core.Path.{sym}
 use Rattle.lent.proofs.Lent.{or-else-first, or-else-second}
 use Rattle.lent.proofs.or_else.Statement.{statement}

@@ -1,4 +1,5 @@
--- `lent::words_refusal` meets its contract. Assumes nothing.
+-- `lent::words_refusal` meets its contract: the branch is taken where fewer words are lent than needed, and there `wordsRefusal` is 14;
+-- else it is 0. Assumes nothing.
 use mathlib.Core.Path.{sym}
 use Rattle.lent.proofs.Lent.{words-short, words-enough}
 use Rattle.lent.proofs.words_refusal.Statement.{statement}

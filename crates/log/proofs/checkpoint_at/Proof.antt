@@ -1,4 +1,5 @@
--- `log::checkpoint_at` meets its contract. Assumes nothing.
+-- `log::checkpoint_at` meets its contract: number 0 and a number past the count give the initial state; any other is record c - 1 of the
+-- worker's section, which lies within the log by tests 1 to 6. Assumes nothing.
 use mathlib.Core.Path.{sym, _∙_}
 use native.Mathlib.Omega.{arith}
 use Rattle.log.proofs.Readable.{readable}

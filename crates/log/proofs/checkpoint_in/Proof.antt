@@ -1,4 +1,5 @@
--- `log::checkpoint_in` meets its contract. Assumes nothing.
+-- `log::checkpoint_in` meets its contract: the part of the log has 8 × count bytes, so record k, below count, lies within it, and it is
+-- read in the header's form. Assumes nothing.
 use native.Mathlib.Omega.{arith}
 use Rattle.log.proofs.Read.{section-length}
 use borrow.Author.Needs.{needs}

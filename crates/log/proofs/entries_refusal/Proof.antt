@@ -1,4 +1,5 @@
--- `log::entries_refusal` meets its contract. Assumes nothing.
+-- `log::entries_refusal` meets its contract: the branches are taken where some entry fails test 5, and where none does but some entry fails
+-- test 6; else `entriesRefusal` is 0. Assumes nothing.
 use Rattle.log.specs.Header.{entriesRefusal}
 use borrow.Author.Needs.{needs}
 use Rattle.log.proofs.entries_refusal.Statement.{statement}

@@ -1,4 +1,5 @@
--- `log::entry` meets its contract. Assumes nothing.
+-- `log::entry` meets its contract: number j, below 5, of the entry of worker w is the 4 bytes at 8 + 20 × w + 4 × j, which end at
+-- 8 + 20 × (w + 1) or before. Assumes nothing.
 use Rattle.log.specs.Layout.{field}
 use borrow.Author.Needs.{needs}
 use Rattle.log.proofs.entry.Statement.{statement}

@@ -1,4 +1,5 @@
--- `log::entry_fault` meets its contract. Assumes nothing.
+-- `log::entry_fault` meets its contract: the branch is taken where `test` is 5, and there `entryFault` is test 5; else it is test 6.
+-- Assumes nothing.
 use borrow.Author.Tests.{eq-eqb, ne-eqb}
 use Rattle.log.specs.Header.{entryFault}
 use borrow.Author.Needs.{needs}

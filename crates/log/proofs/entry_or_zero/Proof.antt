@@ -1,4 +1,5 @@
--- `log::entry_or_zero` meets its contract. Assumes nothing.
+-- `log::entry_or_zero` meets its contract: past the last worker `entryOrZero` is 0; an entry of a worker of the log lies within the header,
+-- and this within the log by test 4. Assumes nothing.
 use borrow.Author.Tests.{le-leb, lt-leb}
 use Rattle.log.specs.Layout.{entryOrZero}
 use Rattle.log.proofs.Read.{size-read, entry-within}

@@ -1,4 +1,5 @@
--- `log::event_at` meets its contract. Assumes nothing.
+-- `log::event_at` meets its contract: past the last worker the model has no event (`event-outside`), and any other worker is one that
+-- `worker_event` reads. Assumes nothing.
 use mathlib.Core.Path.{sym, _∙_}
 use Rattle.log.proofs.Read.{event-outside}
 use borrow.Author.Needs.{needs}

@@ -1,4 +1,4 @@
--- `log::event_in` meets its contract. Assumes nothing.
+-- `log::event_in` meets its contract: the part of the log has 12 × count bytes, so record k, below count, lies within it. Assumes nothing.
 use native.Mathlib.Omega.{arith}
 use Rattle.log.proofs.Read.{section-length}
 use borrow.Author.Needs.{needs}

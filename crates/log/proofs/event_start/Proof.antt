@@ -1,4 +1,5 @@
--- `log::event_start` meets its contract. Assumes nothing.
+-- `log::event_start` meets its contract: `eventStart` is the event offset in the worker's entry, 0 past the last worker, and
+-- `entry_or_zero` reads that number. Assumes nothing.
 use Rattle.log.specs.Layout.{eventStart}
 use borrow.Author.Needs.{needs}
 use Rattle.log.proofs.event_start.Statement.{statement}

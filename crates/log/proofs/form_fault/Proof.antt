@@ -1,4 +1,4 @@
--- `log::form_fault` meets its contract. Assumes nothing.
+-- `log::form_fault` meets its contract: the form is one of the two exactly where `is_form` says so. Assumes nothing.
 use Rattle.log.specs.Header.{formFault}
 use borrow.Author.Needs.{needs}
 use Rattle.log.proofs.form_fault.Statement.{statement}

@@ -1,4 +1,5 @@
--- `log::is_outside` meets its contract. Assumes nothing.
+-- `log::is_outside` meets its contract: the branch is taken where the section starts before the header ends; else `outside` is whether its
+-- end, a sum that cannot overflow, passes the log's. Assumes nothing.
 use borrow.Author.Tests.{lt-ltb, le-ltb}
 use Rattle.log.specs.Header.{outside}
 use borrow.Author.Needs.{needs}

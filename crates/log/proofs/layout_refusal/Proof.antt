@@ -1,4 +1,5 @@
--- `log::layout_refusal` meets its contract. Assumes nothing.
+-- `log::layout_refusal` meets its contract: each branch returns the number of its test and is reached where every test before it passed;
+-- past 4 the header is whole, and `entries_refusal` tells 5, 6 or 0. Assumes nothing.
 use mathlib.Core.Path.{_≡_, sym, _∙_}
 use mathlib.Core.Bool.{false}
 use borrow.Author.Tests.{lt-ltb, le-ltb, eq-eqb, ne-eqb}

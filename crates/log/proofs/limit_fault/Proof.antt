@@ -1,4 +1,5 @@
--- `log::limit_fault` meets its contract. Assumes nothing.
+-- `log::limit_fault` meets its contract: a branch is taken where the event count or the checkpoint count is over its limit; where neither
+-- is, the role decides. Assumes nothing.
 use borrow.Author.Tests.{lt-ltb, le-ltb}
 use Rattle.log.specs.Header.{limitFault}
 use borrow.Author.Needs.{needs}

@@ -1,4 +1,5 @@
--- `log::part_at` meets its contract. Assumes nothing.
+-- `log::part_at` meets its contract: the bytes from `start` up to `start` + size × count are the first size × count of those from `start`
+-- on. Assumes nothing.
 use native.Mathlib.Nat.{add-sub-cancel-left}
 use Rattle.log.specs.Layout.{section}
 use borrow.Author.Needs.{needs}

@@ -1,4 +1,5 @@
--- `log::receives_once` meets its contract. Assumes nothing.
+-- `log::receives_once` meets its contract: a log that passes tests 1 to 6 has 8 bytes or more, so its form can be read, and
+-- `records::receives_once` decides by it. Assumes nothing.
 use borrow.Author.Needs.{needs}
 use Rattle.log.proofs.Readable.{readable}
 use Rattle.log.proofs.receives_once.Statement.{statement}

@@ -1,4 +1,5 @@
--- `log::records_part` meets its contract. Assumes nothing.
+-- `log::records_part` meets its contract: number j of the worker's entry is the count and number j + 1 the offset, and the section that
+-- they give lies within the log as required. Assumes nothing.
 use mathlib.Core.Path.{_∙_}
 use native.Mathlib.Omega.{arith}
 use borrow.Author.Needs.{needs}

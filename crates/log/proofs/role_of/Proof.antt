@@ -1,4 +1,5 @@
--- `log::role_of` meets its contract. Assumes nothing.
+-- `log::role_of` meets its contract: the model's role is the number in the worker's entry, 0 past the last worker, and test 5 bounds it
+-- (`role-field`). Assumes nothing.
 use mathlib.Core.Path.{sym, _∙_}
 use native.Mathlib.Omega.{arith}
 use Rattle.log.proofs.Read.{role-field}

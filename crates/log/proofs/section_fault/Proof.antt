@@ -1,4 +1,5 @@
--- `log::section_fault` meets its contract. Assumes nothing.
+-- `log::section_fault` meets its contract: the branch is taken where the section of events is outside; else `sectionFault` is whether that
+-- of checkpoints is. Assumes nothing.
 use Rattle.log.specs.Header.{sectionFault}
 use borrow.Author.Needs.{needs}
 use Rattle.log.proofs.section_fault.Statement.{statement}

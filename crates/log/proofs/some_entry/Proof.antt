@@ -1,4 +1,5 @@
--- `log::some_entry` meets its contract. Assumes nothing.
+-- `log::some_entry` meets its contract: after w turns none of the first w entries has the fault; the turn that finds one returns yes, the
+-- end of the loop no. Assumes nothing.
 use Prim.Native.Nat.{_-_}
 use native.Mathlib.Omega.{arith}
 use borrow.Author.Needs.{needs}

@@ -1,4 +1,5 @@
--- `log::worker_count` meets its contract. Assumes nothing.
+-- `log::worker_count` meets its contract: the model has as many workers as the header's size field says (`size-read`), and test 3 keeps
+-- that at 64 or fewer. Assumes nothing.
 use mathlib.Core.Path.{sym, _∙_}
 use Rattle.log.proofs.Readable.{readable}
 use Rattle.log.proofs.Read.{size-read, workers-few}

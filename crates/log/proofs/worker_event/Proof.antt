@@ -1,4 +1,5 @@
--- `log::worker_event` meets its contract. Assumes nothing.
+-- `log::worker_event` meets its contract: index 0 and an index past the count give no event; any other is record x - 1 of the worker's
+-- section, which lies within the log by tests 1 to 6. Assumes nothing.
 use mathlib.Core.Path.{sym, _∙_}
 use native.Mathlib.Omega.{arith}
 use Rattle.log.proofs.Read.{event-none, event-past, events-within, event-at, entry-within, entry-count, entry-start}

@@ -1,4 +1,5 @@
--- `lower_cut::bit` meets its contract. Assumes nothing.
+-- `lower_cut::bit` meets its contract: a cut word of 0 gives 0; any other gives 1 shifted by w, which is 2 ^ w and fits 64 bits, since w is
+-- below 64. Assumes nothing.
 use native.Mathlib.Nat.{one-mul, mod-eq-of-lt}
 use lib.Pow.{pow-lt}
 use borrow.Author.Tests.{lt-ltb}

@@ -1,4 +1,5 @@
--- `lower_cut::cut_into` meets its contract. Assumes nothing.
+-- `lower_cut::cut_into` meets its contract: the cleared words with e for worker i are where Figure 2 begins, so they may be visited
+-- (`begun`), and the visit from there is all of Figure 2 (`figured`). Assumes nothing.
 use Rattle.lower_cut.specs.Figure2.{Found}
 use Rattle.lower_cut.proofs.Turns.{begun, figured}
 use mathlib.Core.Path.{_∙_, ap}

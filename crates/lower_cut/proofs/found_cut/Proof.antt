@@ -1,4 +1,5 @@
--- `lower_cut::found_cut` meets its contract. Assumes nothing.
+-- `lower_cut::found_cut` meets its contract: `cut_into` leaves the lower cut, which has one word for each worker (`lower-is`), so the
+-- workers word of these words is that of all n workers. Assumes nothing.
 use Rattle.accept.proofs.Accepted.{well-formed}
 use Rattle.lower_cut.specs.Calls.{foundCut}
 use Rattle.lower_cut.proofs.LowerCut.{lower-is}

@@ -1,4 +1,5 @@
--- `lower_cut::lower_cut` meets its contract. Assumes nothing.
+-- `lower_cut::lower_cut` meets its contract: the number is `search_refusal`'s; where it is 0 (`search-ok`) `found_cut` writes the lower cut
+-- to the first n words, else words and scratch do not change (`untouched`). Assumes nothing.
 use mathlib.Core.Path.{refl, sym, _∙_}
 use borrow.Author.Tests.{ne-eqb}
 use lib.Seq.{length-take-le}

@@ -1,4 +1,5 @@
--- `lower_cut::workers_word` meets its contract. Assumes nothing.
+-- `lower_cut::workers_word` meets its contract: after w turns the word has the bits of the first w workers; bit w is not among them, so the
+-- bitwise or adds it (`word-more`). Assumes nothing.
 use mathlib.Core.Path.{_≡_, sym, _∙_}
 use Prim.Native.Nat.{_≤_, _-_}
 use native.Mathlib.Nat.{le-antisymm}

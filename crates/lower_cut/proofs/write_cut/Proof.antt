@@ -1,4 +1,5 @@
--- `lower_cut::write_cut` meets its contract. Assumes nothing.
+-- `lower_cut::write_cut` meets its contract: the two stores put the visits and the workers word in the first two words, in this order, and
+-- leave the others (`stored-words`). Assumes nothing.
 use Rattle.lent.proofs.Lent.{storeEach, stored-words}
 use Rattle.lower_cut.specs.Calls.{cutTotals}
 use borrow.Author.Needs.{needs}

@@ -1,4 +1,5 @@
--- `pack::copy_sections` meets its contract. Assumes nothing.
+-- `pack::copy_sections` meets its contract: the events are copied to `at` and the checkpoints to where those end, which are the sections of
+-- worker w (`sections-copied`), and they end where the next worker's begin (`parts-end`). Assumes nothing.
 use mathlib.Core.Path.{_∙_}
 use native.Mathlib.Omega.{arith}
 use borrow.Author.Needs.{needs}

@@ -1,4 +1,5 @@
--- `pack::pack` meets its contract. Assumes nothing.
+-- `pack::pack` meets its contract: the number is `pack_refusal`'s; where it is 0 (`pack-ok`) fields, entries and sections, each written
+-- where the last ends, are the packed log (`packed-written`, `file-archived`), else no byte changes. Assumes nothing.
 use mathlib.Core.Path.{_≡_, refl, sym, _∙_}
 use borrow.Author.Tests.{ne-eqb}
 use native.Mathlib.Omega.{arith}

@@ -1,4 +1,5 @@
--- `pack::pack_refusal` meets its contract. Assumes nothing.
+-- `pack::pack_refusal` meets its contract: the log's number is returned where it is not 0; where it is 0 the log can be read, and `or_else`
+-- gives 26 and 25 of its packed length before `others`. Assumes nothing.
 use mathlib.Core.Path.{sym, _∙_}
 use Rattle.lent.proofs.Lent.{or-else-first, or-else-second}
 use Rattle.accept.proofs.Accepted.{accepted-layout}

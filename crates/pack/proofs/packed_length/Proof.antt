@@ -1,4 +1,5 @@
--- `pack::packed_length` meets its contract. Assumes nothing.
+-- `pack::packed_length` meets its contract: before turn w `at` is where the sections of worker w begin: where the header ends for worker 0,
+-- and one worker's sections further after each turn. Assumes nothing.
 use mathlib.Core.Path.{_≡_, sym, _∙_}
 use Prim.Native.Nat.{_≤_, _-_}
 use native.Mathlib.Omega.{arith}

@@ -1,4 +1,5 @@
--- `pack::room_refusal` meets its contract. Assumes nothing.
+-- `pack::room_refusal` meets its contract: a length over that of the longest log gives 26, else one over the bytes lent gives 25: the two
+-- tests of `roomRefusal` in its order. Assumes nothing.
 use borrow.Author.Tests.{lt-ltb, le-ltb}
 use Rattle.pack.specs.Calls.{roomRefusal}
 use Rattle.pack.proofs.room_refusal.Statement.{statement}

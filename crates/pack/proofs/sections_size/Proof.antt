@@ -1,4 +1,5 @@
--- `pack::sections_size` meets its contract. Assumes nothing.
+-- `pack::sections_size` meets its contract: in a log that passes 1 to 6 the events part has 12 bytes for each event and the checkpoints
+-- part 8 for each checkpoint (`parts-long`). Assumes nothing.
 use Rattle.pack.proofs.Writing.{parts-long}
 use borrow.Author.Needs.{needs}
 use Rattle.pack.proofs.sections_size.Statement.{statement}

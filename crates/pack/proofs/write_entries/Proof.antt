@@ -1,4 +1,5 @@
--- `pack::write_entries` meets its contract. Assumes nothing.
+-- `pack::write_entries` meets its contract: after w turns the entries of the first w workers stand behind the fields, every other byte is
+-- as lent, and `start` is where the sections of worker w begin. Assumes nothing.
 use mathlib.Core.Path.{_≡_, sym, _∙_}
 use Prim.Native.Nat.{_-_}
 use native.Mathlib.Omega.{arith}

@@ -1,4 +1,5 @@
--- `pack::write_entry` meets its contract. Assumes nothing.
+-- `pack::write_entry` meets its contract: the five numbers are those of `numbersOf`, the checkpoints' offset being `start` plus the length
+-- of the events part; both offsets fit 32 bits, since the packed log is not too long. Assumes nothing.
 use mathlib.Core.Path.{_∙_}
 use native.Mathlib.Omega.{arith}
 use borrow.Author.Needs.{needs}

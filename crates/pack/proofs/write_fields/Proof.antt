@@ -1,4 +1,5 @@
--- `pack::write_fields` meets its contract. Assumes nothing.
+-- `pack::write_fields` meets its contract: form, worker count and length are written at bytes 0, 2 and 4, each where the last one ends
+-- (`fields-written`), and the bytes lent have room for the header. Assumes nothing.
 use mathlib.Core.Path.{_∙_}
 use native.Mathlib.Omega.{arith}
 use borrow.Author.Needs.{needs}

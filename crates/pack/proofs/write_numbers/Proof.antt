@@ -1,4 +1,5 @@
--- `pack::write_numbers` meets its contract. Assumes nothing.
+-- `pack::write_numbers` meets its contract: after j turns the first j numbers stand from `at` on in 4 bytes each, and every other byte is
+-- as lent. Assumes nothing.
 use mathlib.Core.Path.{refl}
 use Prim.Native.Nat.{_-_}
 use native.Mathlib.Omega.{arith}

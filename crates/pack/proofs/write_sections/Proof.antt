@@ -1,4 +1,5 @@
--- `pack::write_sections` meets its contract. Assumes nothing.
+-- `pack::write_sections` meets its contract: after w turns the sections of the first w workers stand behind the header without gaps, every
+-- other byte is as lent, and `at` is where those of worker w begin. Assumes nothing.
 use mathlib.Core.Path.{_≡_, sym, _∙_}
 use Prim.Native.Nat.{_-_}
 use native.Mathlib.Omega.{arith}

@@ -1,4 +1,5 @@
--- `plan::main` meets its contract. Assumes nothing.
+-- `plan::main` meets its contract: `write_text` returns a number no larger than its buffer's length, so the bytes that are printed lie
+-- within the buffer (`holds-within`). Assumes nothing.
 use mathlib.Core.Path.{sym}
 use native.Mathlib.Omega.{arith}
 use lib.Seq.{length-take-le}

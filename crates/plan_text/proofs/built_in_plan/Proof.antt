@@ -1,4 +1,5 @@
--- `plan_text::built_in_plan` meets its contract. Assumes nothing.
+-- `plan_text::built_in_plan` meets its contract: the table that `plan` is given is the built-in one, for which the call promises the number
+-- without 27 and the totals by that table (`AsBefore`). Assumes nothing.
 use mathlib.Core.Path.{_∙_}
 use native.Mathlib.Omega.{arith}
 use borrow.Author.Needs.{needs}

@@ -1,4 +1,5 @@
--- `plan_text::put` meets its contract. Assumes nothing.
+-- `plan_text::put` meets its contract: after k turns the first k bytes stand behind the text, as many as there is room for, and `next` is
+-- the place after them. Assumes nothing.
 use mathlib.Core.Path.{_≡_, refl}
 use mathlib.Core.List.{_++_}
 use Prim.Native.Nat.{_≤_, _-_}

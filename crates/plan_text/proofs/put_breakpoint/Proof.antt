@@ -1,4 +1,5 @@
--- `plan_text::put_breakpoint` meets its contract. Assumes nothing.
+-- `plan_text::put_breakpoint` meets its contract: name and worker, a space and the event, and the line end are put one behind the other,
+-- from the empty text on (`holds-none`), which is the first line. Assumes nothing.
 use borrow.Author.Needs.{needs}
 use Rattle.plan_text.specs.Text.{breakpointLine}
 use Rattle.plan_text.proofs.Buffer.{holds-none}

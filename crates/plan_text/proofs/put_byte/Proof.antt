@@ -1,4 +1,5 @@
--- `plan_text::put_byte` meets its contract. Assumes nothing.
+-- `plan_text::put_byte` meets its contract: where the place is not within the buffer, the buffer already holds all of the text that it has
+-- room for (`adds-none`); else the byte is stored behind the text (`adds-byte`). Assumes nothing.
 use borrow.Author.Needs.{needs}
 use Rattle.plan_text.proofs.Buffer.{adds-none, adds-byte}
 use Rattle.plan_text.proofs.put_byte.Statement.{statement}

@@ -1,4 +1,5 @@
--- `plan_text::put_found` meets its contract. Assumes nothing.
+-- `plan_text::put_found` meets its contract: first line, process lines and totals line are put one behind the other; by the plan words,
+-- upper line and totals required they are the text of the event (`found-text`). Assumes nothing.
 use borrow.Author.Needs.{needs}
 use mathlib.Core.Path.{refl}
 use native.Mathlib.Omega.{arith}

@@ -1,4 +1,5 @@
--- `plan_text::put_four` meets its contract. Assumes nothing.
+-- `plan_text::put_four` meets its contract: each of the four numbers with its name, and then the line end, is put behind the text that the
+-- call before it left, in the order of `fourNumbers`. Assumes nothing.
 use borrow.Author.Needs.{needs}
 use Rattle.plan_text.specs.Text.{fourNumbers}
 use Rattle.plan_text.proofs.put_four.Statement.{statement}

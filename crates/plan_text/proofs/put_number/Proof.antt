@@ -1,4 +1,5 @@
--- `plan_text::put_number` meets its contract. Assumes nothing.
+-- `plan_text::put_number` meets its contract: the name is put, then the digits that `io::decimal` gives, the fewest that spell the number,
+-- at most 20 for 64 bits, as in `decimal` (`digits-decimal`). Assumes nothing.
 use borrow.Author.Needs.{needs}
 use mathlib.Core.Path.{_∙_}
 use Rattle.plan_text.specs.Text.{withNumber}

@@ -1,4 +1,5 @@
--- `plan_text::put_plan` meets its contract. Assumes nothing.
+-- `plan_text::put_plan` meets its contract: the words lent suffice for every log, so only the log's numbers, 12 and 13 refuse the plan
+-- (`plan-number`); a refused one gives the text of its number, any other that of plan and upper line. Assumes nothing.
 use borrow.Author.Needs.{needs}
 use mathlib.Core.Path.{refl, sym, _∙_, ap}
 use Prim.Native.Nat.{ℕ, _*_}

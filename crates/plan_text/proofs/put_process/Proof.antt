@@ -1,4 +1,5 @@
--- `plan_text::put_process` meets its contract. Assumes nothing.
+-- `plan_text::put_process` meets its contract: number and role of the worker, then its cut, upper line, start and identifier as read at its
+-- places, are put one behind the other, in the order of `processLine`. Assumes nothing.
 use borrow.Author.Needs.{needs}
 use Rattle.plan_text.specs.Text.{processLine}
 use Rattle.plan_text.proofs.put_process.Statement.{statement}

@@ -1,4 +1,5 @@
--- `plan_text::put_processes` meets its contract. Assumes nothing.
+-- `plan_text::put_processes` meets its contract: after w turns the process lines of the first w workers stand behind the text, and `next`
+-- is the place after them. Assumes nothing.
 use mathlib.Core.Path.{_≡_, refl}
 use Prim.Native.Nat.{_≤_, _-_}
 use native.Mathlib.Nat.{le-antisymm}

@@ -1,4 +1,5 @@
--- `plan_text::put_refused` meets its contract. Assumes nothing.
+-- `plan_text::put_refused` meets its contract: the name, the number and the line end are put one behind the other, from the empty text on
+-- (`holds-none`). Assumes nothing.
 use borrow.Author.Needs.{needs}
 use Rattle.plan_text.specs.Text.{refusedText}
 use Rattle.plan_text.proofs.Buffer.{holds-none}

@@ -1,4 +1,5 @@
--- `plan_text::write_text` meets its contract. Assumes nothing.
+-- `plan_text::write_text` meets its contract: an input under 8 bytes or over 65,536 gives the text of refusal 1; of any other the first 8
+-- bytes are read as worker and event, and the log is what follows them. Assumes nothing.
 use borrow.Author.Needs.{needs}
 use borrow.Author.Tests.{lt-ltb, le-ltb}
 use Rattle.plan_text.specs.Text.{textOf}

@@ -1,4 +1,5 @@
--- `planner::built_in_table` meets its contract. Assumes nothing.
+-- `planner::built_in_table` meets its contract: fewer than 12 words give 14 and do not change (`untouched`); else the built-in words stand
+-- in the first 12, and these load (`built-in-loads`). Assumes nothing.
 use mathlib.Core.Path.{refl, sym, _∙_}
 use Prim.Native.Nat.{_≤_}
 use native.Mathlib.Omega.{arith}

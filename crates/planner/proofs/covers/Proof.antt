@@ -1,4 +1,5 @@
--- `planner::covers` meets its contract. Assumes nothing.
+-- `planner::covers` meets its contract: number and answer are those of `covering::covers`, with 14 for the answer word; where the number is
+-- 0 there is such a word (`words-ok`), and it holds the answer (`first-word`). Assumes nothing.
 use mathlib.Core.Path.{sym, _∙_}
 use Rattle.lent.proofs.Lent.{or-else-zero, words-ok}
 use Rattle.lent.proofs.Left.{leaves-by}

@@ -1,4 +1,5 @@
--- `planner::cut_test` meets its contract. Assumes nothing.
+-- `planner::cut_test` meets its contract: number and answer are those of `causality::cut_test`, with 14 for the answer word; where the
+-- number is 0 there is such a word (`test-ok`), and it holds the answer (`first-word`). Assumes nothing.
 use mathlib.Core.Path.{sym, _∙_}
 use Rattle.lent.proofs.Lent.{words-ok}
 use Rattle.lent.proofs.Left.{leaves-by}

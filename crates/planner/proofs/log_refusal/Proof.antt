@@ -1,4 +1,5 @@
--- `planner::log_refusal` meets its contract. Assumes nothing.
+-- `planner::log_refusal` meets its contract: the first three promises are those of `accept`; two accepted logs with equal workers give the
+-- same `Given`, of which every answer of document 01's calls is a function (`same-answers`). Assumes nothing.
 use Rattle.planner.proofs.SameAnswers.{same-answers}
 use borrow.Author.Needs.{needs}
 use Rattle.planner.proofs.log_refusal.Statement.{statement}

@@ -1,4 +1,5 @@
--- `planner::lower_cut` meets its contract. Assumes nothing.
+-- `planner::lower_cut` meets its contract: the number is that of `lower_cut::lower_cut`, with 14 for the totals; where it is 0 the cut is
+-- written and two words are there for the totals (`search-ok`), else no word changes. Assumes nothing.
 use mathlib.Core.Path.{refl, sym, _∙_}
 use Rattle.lent.proofs.Lent.{words-ok, put-found, untouched}
 use Rattle.lent.proofs.Left.{leaves-both-by}

@@ -1,4 +1,5 @@
--- `planner::pack` meets its contract. Assumes nothing.
+-- `planner::pack` meets its contract: the number is that of `pack::pack`, with 14 for `written`; where it is 0 the length is in that word,
+-- and the file, being archived, is answered as the log is (`archived-alike`). Assumes nothing.
 use mathlib.Core.Path.{_≡_, refl, sym, _∙_, ap}
 use mathlib.Core.List.{[], _∷_}
 use native.Mathlib.Omega.{arith}

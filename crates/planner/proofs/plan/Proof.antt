@@ -1,4 +1,5 @@
--- `planner::plan` meets its contract. Assumes nothing.
+-- `planner::plan` meets its contract: the number is that of `restore::plan`, with 14 for the totals; where it is 0 four words are there for
+-- these (`plan-ok`), else no word changes; the built-in table is never refused by 27 (`as-before`). Assumes nothing.
 use mathlib.Core.Path.{refl, sym, _∙_}
 use Rattle.lent.proofs.Lent.{words-ok, put-found, untouched}
 use Rattle.lent.proofs.Left.{leaves-both-by}

@@ -1,4 +1,5 @@
--- `planner::restore_and_replay` meets its contract. Assumes nothing.
+-- `planner::restore_and_replay` meets its contract: the number is `restore_refusal`'s; where it is 0 the plan is not refused, steps may be
+-- made from its starts (`front-state`), and demand 3 holds of what they leave (`restored`), else no word changes. Assumes nothing.
 use mathlib.Core.Path.{refl, sym, _∙_}
 use native.Mathlib.Nat.{lt-of-le-of-lt}
 use native.Mathlib.Omega.{arith}

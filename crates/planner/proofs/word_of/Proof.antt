@@ -1,4 +1,4 @@
--- `planner::word_of` meets its contract. Assumes nothing.
+-- `planner::word_of` meets its contract: yes gives 1 and no gives 0, by the two cases of `wordOf`. Assumes nothing.
 use Rattle.lent.specs.Lent.{wordOf}
 use borrow.Author.Needs.{needs}
 use Rattle.planner.proofs.word_of.Statement.{statement}

@@ -1,4 +1,5 @@
--- `planner::write_answer` meets its contract. Assumes nothing.
+-- `planner::write_answer` meets its contract: a number other than 0 is returned with no word changed (`untouched`); where it is 0 there is
+-- a word, as the function requires, and it becomes 1 or 0 (`stored-words`). Assumes nothing.
 use mathlib.Core.Path.{refl, sym, _∙_}
 use mathlib.Core.List.{[], _∷_}
 use native.Mathlib.Omega.{arith}

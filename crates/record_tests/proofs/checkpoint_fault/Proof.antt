@@ -1,4 +1,5 @@
--- `record_tests::checkpoint_fault` meets its contract. Assumes nothing.
+-- `record_tests::checkpoint_fault` meets its contract: a branch is taken where the index is over the event count, or below the previous
+-- index; where neither is, the identifiers decide. Assumes nothing.
 use borrow.Author.Tests.{lt-ltb, le-ltb}
 use Rattle.record_tests.specs.Records.{checkpointFault}
 use borrow.Author.Needs.{needs}

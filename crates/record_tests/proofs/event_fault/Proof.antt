@@ -1,4 +1,5 @@
--- `record_tests::event_fault` meets its contract. Assumes nothing.
+-- `record_tests::event_fault` meets its contract: the branches are taken for 7, 8 and 9, so the number that is left, at most 10, is 10;
+-- each test is given event k + 1. Assumes nothing.
 use mathlib.Core.Path.{_≡_}
 use borrow.Author.Tests.{eq-eqb, ne-eqb}
 use native.Mathlib.Omega.{arith}

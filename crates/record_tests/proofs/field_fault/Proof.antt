@@ -1,4 +1,5 @@
--- `record_tests::field_fault` meets its contract. Assumes nothing.
+-- `record_tests::field_fault` meets its contract: each branch is taken where spare, kind or peer is the first to fail; where none of them
+-- fails, `fieldFault` is the test of the send. Assumes nothing.
 use borrow.Author.Tests.{eq-eqb, ne-eqb}
 use Rattle.record_tests.specs.Records.{fieldFault}
 use borrow.Author.Needs.{needs}

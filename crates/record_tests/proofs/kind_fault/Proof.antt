@@ -1,4 +1,5 @@
--- `record_tests::kind_fault` meets its contract. Assumes nothing.
+-- `record_tests::kind_fault` meets its contract: the branch is taken for a send, which is no fault; any other event has a fault exactly
+-- where it is no receive. Assumes nothing.
 use Rattle.record_tests.specs.Records.{kindFault}
 use borrow.Author.Needs.{needs}
 use Rattle.record_tests.proofs.kind_fault.Statement.{statement}

@@ -1,4 +1,5 @@
--- `record_tests::order_fault` meets its contract. Assumes nothing.
+-- `record_tests::order_fault` meets its contract: the branch is taken where the event is no receive, which is no fault; a receive is
+-- compared with the event that it names. Assumes nothing.
 use Rattle.ranges.proofs.Bools.{said-false, said-true}
 use Rattle.record_tests.specs.Records.{orderFault}
 use borrow.Author.Needs.{needs}

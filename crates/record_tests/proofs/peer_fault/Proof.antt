@@ -1,4 +1,5 @@
--- `record_tests::peer_fault` meets its contract. Assumes nothing.
+-- `record_tests::peer_fault` meets its contract: the branch is taken where the peer is w itself; else `peerFault` is whether the peer is
+-- not below the worker count. Assumes nothing.
 use borrow.Author.Tests.{eq-eqb, ne-eqb}
 use Rattle.record_tests.specs.Records.{peerFault}
 use borrow.Author.Needs.{needs}

@@ -1,4 +1,5 @@
--- `record_tests::record_count` meets its contract. Assumes nothing.
+-- `record_tests::record_count` meets its contract: the branch is taken for test 11, which looks at checkpoints; every other test looks at
+-- events. Assumes nothing.
 use borrow.Author.Tests.{eq-eqb, ne-eqb}
 use Rattle.record_tests.specs.Records.{recordCount}
 use borrow.Author.Needs.{needs}

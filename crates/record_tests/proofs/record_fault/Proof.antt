@@ -1,4 +1,5 @@
--- `record_tests::record_fault` meets its contract. Assumes nothing.
+-- `record_tests::record_fault` meets its contract: the branch is taken for test 11, of checkpoint k + 1 beside checkpoint k; any other
+-- number is then at most 10, a test of event k + 1. Assumes nothing.
 use borrow.Author.Tests.{eq-eqb, ne-eqb}
 use native.Mathlib.Omega.{arith}
 use Rattle.record_tests.proofs.Bound.{records-bound}

@@ -1,4 +1,5 @@
--- `record_tests::send_fault` meets its contract. Assumes nothing.
+-- `record_tests::send_fault` meets its contract: of a send the answer is whether it names an event; any other event fails where it names 0,
+-- or else an event past its peer's count. Assumes nothing.
 use borrow.Author.Tests.{eq-eqb, ne-eqb}
 use Rattle.record_tests.specs.Records.{sendFault}
 use borrow.Author.Needs.{needs}

@@ -1,4 +1,5 @@
--- `record_tests::send_of` meets its contract. Assumes nothing.
+-- `record_tests::send_of` meets its contract: the event that e names is the one of e's peer with the index `send`, which `event_at` reads.
+-- Assumes nothing.
 use Rattle.record_tests.specs.Records.{sendOf}
 use borrow.Author.Needs.{needs}
 use Rattle.record_tests.proofs.send_of.Statement.{statement}

@@ -1,4 +1,5 @@
--- `record_tests::some_record` meets its contract. Assumes nothing.
+-- `record_tests::some_record` meets its contract: after w turns none of the first w workers has a record with the fault; the turn that
+-- finds one returns yes, the end of the loop no. Assumes nothing.
 use Prim.Native.Nat.{_-_}
 use native.Mathlib.Omega.{arith}
 use borrow.Author.Needs.{needs}

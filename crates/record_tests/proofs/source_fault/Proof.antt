@@ -1,4 +1,5 @@
--- `record_tests::source_fault` meets its contract. Assumes nothing.
+-- `record_tests::source_fault` meets its contract: an event that is no receive has no fault; of a receive the branches ask in turn whether
+-- the event that it names is a send, and one to w. Assumes nothing.
 use Rattle.ranges.proofs.Bools.{said-false, said-true}
 use Rattle.record_tests.specs.Records.{sourceFault}
 use borrow.Author.Needs.{needs}

@@ -1,4 +1,4 @@
--- `record_tests::stamp_fault` meets its contract. Assumes nothing.
+-- `record_tests::stamp_fault` meets its contract: the stamp is compared with that of event k of w, as `event_at` reads it. Assumes nothing.
 use Rattle.record_tests.specs.Records.{stampFault}
 use borrow.Author.Needs.{needs}
 use Rattle.record_tests.proofs.stamp_fault.Statement.{statement}

@@ -1,4 +1,5 @@
--- `record_tests::worker_fault` meets its contract. Assumes nothing.
+-- `record_tests::worker_fault` meets its contract: after k turns none of the first k records that the test looks at has the fault; the turn
+-- that finds one returns yes, the end no. Assumes nothing.
 use Prim.Native.Nat.{_-_}
 use native.Mathlib.Omega.{arith}
 use borrow.Author.Needs.{needs}

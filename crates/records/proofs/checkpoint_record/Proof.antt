@@ -1,4 +1,5 @@
--- `records::checkpoint_record` meets its contract. Assumes nothing.
+-- `records::checkpoint_record` meets its contract: the index is read at byte 8 × k and the identifier word at 8 × k + 4; the identifier and
+-- the mark are both taken from that word. Assumes nothing.
 use Rattle.records.specs.Checkpoint.{checkpointRecord}
 use borrow.Author.Needs.{needs}
 use Rattle.records.proofs.checkpoint_record.Statement.{statement}

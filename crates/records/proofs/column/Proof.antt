@@ -1,4 +1,5 @@
--- `records::column` meets its contract. Assumes nothing.
+-- `records::column` meets its contract: each arm of the match tells the kind, and its number is that kind's `kindNumber` minus 1.
+-- Assumes nothing.
 use borrow.Author.Needs.{needs}
 use Rattle.records.proofs.column.Statement.{statement}
 use Rattle.records.proofs.column.Tie as tie

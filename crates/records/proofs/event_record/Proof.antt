@@ -1,4 +1,5 @@
--- `records::event_record` meets its contract. Assumes nothing.
+-- `records::event_record` meets its contract: each arm of the match gives the case that `kindOf` has for its byte, the record table has a
+-- case for each byte below 256 (`table-at`), and every other field is read at its offset. Assumes nothing.
 use mathlib.Core.Path.{_≡_, sym, _∙_, ap}
 use mathlib.Core.Logic.{⊎-elim}
 use Prim.Native.Nat.{_*_, _<_}

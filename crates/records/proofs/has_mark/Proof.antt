@@ -1,4 +1,5 @@
--- `records::has_mark` meets its contract. Assumes nothing.
+-- `records::has_mark` meets its contract: in a form with marks the answer is whether the word is at least the top bit; in any other form no
+-- word has the mark. Assumes nothing.
 use Rattle.records.specs.Mark.{hasMark}
 use borrow.Author.Needs.{needs}
 use Rattle.records.proofs.has_mark.Statement.{statement}

@@ -1,4 +1,5 @@
--- `records::is_form` meets its contract. Assumes nothing.
+-- `records::is_form` meets its contract: the branch is taken for the first form, and any other number is a form exactly where it is the
+-- second one. Assumes nothing.
 use borrow.Author.Tests.{eq-eqb, ne-eqb}
 use Rattle.records.specs.Forms.{isForm}
 use Rattle.records.proofs.is_form.Statement.{statement}

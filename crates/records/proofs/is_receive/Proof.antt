@@ -1,4 +1,5 @@
--- `records::is_receive` meets its contract. Assumes nothing.
+-- `records::is_receive` meets its contract: each arm of the match tells the kind, and `isReceive` holds of the two kinds of receives alone.
+-- Assumes nothing.
 use borrow.Author.Needs.{needs}
 use Rattle.records.specs.Event.{isReceive, isUnlogged, isLogged}
 use Rattle.records.proofs.is_receive.Statement.{statement}

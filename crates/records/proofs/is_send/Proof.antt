@@ -1,4 +1,5 @@
--- `records::is_send` meets its contract. Assumes nothing.
+-- `records::is_send` meets its contract: each arm of the match tells the kind, and of the four kinds only a send's has the number that
+-- `isSend` compares with. Assumes nothing.
 use borrow.Author.Needs.{needs}
 use Rattle.records.specs.Event.{isSend}
 use Rattle.records.proofs.is_send.Statement.{statement}

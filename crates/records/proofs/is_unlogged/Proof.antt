@@ -1,4 +1,5 @@
--- `records::is_unlogged` meets its contract. Assumes nothing.
+-- `records::is_unlogged` meets its contract: each arm of the match tells the kind, and only that of a receive without its data has the
+-- number that `isUnlogged` compares with. Assumes nothing.
 use borrow.Author.Needs.{needs}
 use Rattle.records.specs.Event.{isUnlogged}
 use Rattle.records.proofs.is_unlogged.Statement.{statement}

@@ -1,4 +1,5 @@
--- `records::marks_withdrawn` meets its contract. Assumes nothing.
+-- `records::marks_withdrawn` meets its contract: the code compares the form with the second one, and that comparison is `marksWithdrawn`.
+-- Assumes nothing.
 use mathlib.Core.Path.{refl}
 use Rattle.records.specs.Forms.{marksWithdrawn}
 use Rattle.records.proofs.marks_withdrawn.Statement.{statement}

@@ -1,4 +1,5 @@
--- `records::received` meets its contract. Assumes nothing.
+-- `records::received` meets its contract: the branch is taken for a receive, and there `received` is 1; for any other event it is 0, and
+-- both are at most 1. Assumes nothing.
 use native.Mathlib.Omega.{arith}
 use Rattle.records.specs.Event.{received}
 use borrow.Author.Needs.{needs}

@@ -1,4 +1,5 @@
--- `records::receives_once` meets its contract. Assumes nothing.
+-- `records::receives_once` meets its contract: the code compares the form with the second one, and that comparison is `receivesOnce`.
+-- Assumes nothing.
 use mathlib.Core.Path.{refl}
 use Rattle.records.specs.Forms.{receivesOnce}
 use Rattle.records.proofs.receives_once.Statement.{statement}

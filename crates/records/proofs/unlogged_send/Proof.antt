@@ -1,4 +1,5 @@
--- `records::unlogged_send` meets its contract. Assumes nothing.
+-- `records::unlogged_send` meets its contract: the branch is taken for a receive without its data, and there `unloggedSend` is the send
+-- that it names; else it is `otherwise`. Assumes nothing.
 use Rattle.records.specs.Event.{unloggedSend}
 use borrow.Author.Needs.{needs}
 use Rattle.records.proofs.unlogged_send.Statement.{statement}

@@ -1,4 +1,5 @@
--- `records::without_mark` meets its contract. Assumes nothing.
+-- `records::without_mark` meets its contract: in a form with marks the remainder by the top bit is the low 31 bits; in any other form the
+-- word is the identifier. Assumes nothing.
 use Rattle.records.specs.Mark.{withoutMark}
 use borrow.Author.Needs.{needs}
 use Rattle.records.proofs.without_mark.Statement.{statement}

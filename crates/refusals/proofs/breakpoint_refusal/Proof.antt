@@ -1,4 +1,5 @@
--- `refusals::breakpoint_refusal` meets its contract. Assumes nothing.
+-- `refusals::breakpoint_refusal` meets its contract: the log's number is returned where it is not 0; where it is 0 the log can be read, and
+-- `or_else` gives 12 before 13. Assumes nothing.
 use mathlib.Core.Path.{sym, _∙_}
 use borrow.Author.Tests.{eq-eqb, ne-eqb}
 use Rattle.lent.specs.Lent.{orElse}

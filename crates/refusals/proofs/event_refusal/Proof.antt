@@ -1,4 +1,5 @@
--- `refusals::event_refusal` meets its contract. Assumes nothing.
+-- `refusals::event_refusal` meets its contract: event 0 gives 13, and so does an event over the worker's count; where both tests fail,
+-- `eventRefusal` is 0. Assumes nothing.
 use borrow.Author.Tests.{lt-ltb, le-ltb, eq-eqb, ne-eqb}
 use Rattle.refusals.specs.Refusals.{eventRefusal}
 use borrow.Author.Needs.{needs}

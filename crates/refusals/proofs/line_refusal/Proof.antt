@@ -1,4 +1,5 @@
--- `refusals::line_refusal` meets its contract. Assumes nothing.
+-- `refusals::line_refusal` meets its contract: the number of `breakpoint_refusal` is returned where it is not 0; where it is 0 the log is
+-- accepted (`breakpoint-ok`), and `or_else` gives 14 for `each` × n words before `others`. Assumes nothing.
 use borrow.Author.Tests.{eq-eqb, ne-eqb}
 use Rattle.lent.specs.Lent.{orElse}
 use Rattle.accept.proofs.Accepted.{accepted-layout}

@@ -1,4 +1,5 @@
--- `refusals::scratch_refusal` meets its contract. Assumes nothing.
+-- `refusals::scratch_refusal` meets its contract: the words lent are compared with `scratch_words` of the log's worker count: 15 where they
+-- are fewer, else 0. Assumes nothing.
 use borrow.Author.Tests.{lt-ltb, le-ltb}
 use Rattle.refusals.specs.Refusals.{scratchRefusal}
 use borrow.Author.Needs.{needs}

@@ -1,4 +1,5 @@
--- `refusals::scratch_words` meets its contract. Assumes nothing.
+-- `refusals::scratch_words` meets its contract: n = 1 gives 1, and any other n gives 2 × n, which fits since a log has at most 64 workers.
+-- Assumes nothing.
 use borrow.Author.Tests.{eq-eqb, ne-eqb}
 use native.Mathlib.Omega.{arith}
 use Rattle.refusals.specs.Refusals.{scratchWords}

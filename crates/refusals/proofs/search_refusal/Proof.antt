@@ -1,4 +1,5 @@
--- `refusals::search_refusal` meets its contract. Assumes nothing.
+-- `refusals::search_refusal` meets its contract: the number of `line_refusal` is returned where it is not 0; where it is 0 the log is
+-- accepted (`line-ok`), and 15 is all that is left to test. Assumes nothing.
 use borrow.Author.Tests.{eq-eqb, ne-eqb}
 use Rattle.lent.specs.Lent.{orElse}
 use Rattle.accept.proofs.Accepted.{accepted-layout}

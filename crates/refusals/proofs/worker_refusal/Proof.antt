@@ -1,4 +1,5 @@
--- `refusals::worker_refusal` meets its contract. Assumes nothing.
+-- `refusals::worker_refusal` meets its contract: 12 where the log's worker count is at most the worker's number, 0 where it is above: the
+-- one test of `workerRefusal`. Assumes nothing.
 use borrow.Author.Tests.{le-leb, lt-leb}
 use Rattle.refusals.specs.Refusals.{workerRefusal}
 use borrow.Author.Needs.{needs}

@@ -1,4 +1,5 @@
--- `repeats::repeats_from` meets its contract. Assumes nothing.
+-- `repeats::repeats_from` meets its contract: in form 1, with no number left or with rising receives the answer is no; a repeat past the
+-- table is found by the call for those fewer numbers, and where there is none the table decides (`within-first`). Assumes nothing.
 use mathlib.Core.Path.{sym, _∙_}
 use Prim.Native.Nat.{ℕ, _+_, _-_, _*_, _<_}
 use native.Mathlib.Omega.{arith}

@@ -1,4 +1,5 @@
--- `repeats::mark` meets its contract. Assumes nothing.
+-- `repeats::mark` meets its contract: `received` is 0 or 1 and is shifted by less than 32, so the shift loses no bit and is the product
+-- that `marked` has. Assumes nothing.
 use mathlib.Core.Path.{refl}
 use Prim.Native.Nat.{_%_}
 use native.Mathlib.Omega.{arith}

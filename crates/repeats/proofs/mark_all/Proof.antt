@@ -1,4 +1,5 @@
--- `repeats::mark_all` meets its contract. Assumes nothing.
+-- `repeats::mark_all` meets its contract: after w turns no event of the first w workers receives again a send with a bit in the table, and
+-- bit i says whether one of these events receives the event with number low + i. Assumes nothing.
 use mathlib.Core.Path.{_≡_, refl, _∙_}
 use Prim.Native.Nat.{_+_, _-_}
 use native.Mathlib.Omega.{arith}

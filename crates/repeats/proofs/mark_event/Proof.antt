@@ -1,4 +1,5 @@
--- `repeats::mark_event` meets its contract. Assumes nothing.
+-- `repeats::mark_event` meets its contract: where `place_of` gives a number before `low` or past the table, no bit is marked or found; else
+-- `mark` reads its bit and, for a receive, sets it. Assumes nothing.
 use mathlib.Core.Path.{_∙_, ap}
 use native.Mathlib.Omega.{arith}
 use lib.ListN.{length}

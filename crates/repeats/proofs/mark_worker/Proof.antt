@@ -1,4 +1,5 @@
--- `repeats::mark_worker` meets its contract. Assumes nothing.
+-- `repeats::mark_worker` meets its contract: after k turns none of the first k events of w receives again a send with a bit in the table,
+-- and bit i says whether one of them, or of a worker before w, receives event number low + i. Assumes nothing.
 use mathlib.Core.Path.{_≡_, refl, sym, _∙_}
 use mathlib.Core.Bool.{false≢true}
 use Prim.Native.Nat.{_+_, _-_}

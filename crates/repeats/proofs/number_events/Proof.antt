@@ -1,4 +1,5 @@
--- `repeats::number_events` meets its contract. Assumes nothing.
+-- `repeats::number_events` meets its contract: after w turns `next` is the number of events of the first w workers, and word v, for v below
+-- w, is that of the workers before v. Assumes nothing.
 use mathlib.Core.Path.{_≡_, refl, sym, _∙_}
 use mathlib.Core.Logic.{⊎-elim, _≢_}
 use Prim.Native.Nat.{ℕ, _-_, _<_, _≤_}

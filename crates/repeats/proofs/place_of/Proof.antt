@@ -1,4 +1,5 @@
--- `repeats::place_of` meets its contract. Assumes nothing.
+-- `repeats::place_of` meets its contract: by `Numbered` the word of the peer is the number of its first event, and `received` is at most
+-- the send, so the difference is exact. Assumes nothing.
 use native.Mathlib.Omega.{arith}
 use Rattle.repeats.specs.Inner.Table.{placeOf}
 use borrow.Author.Needs.{needs}

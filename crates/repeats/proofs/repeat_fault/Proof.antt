@@ -1,4 +1,5 @@
--- `repeats::repeat_fault` meets its contract. Assumes nothing.
+-- `repeats::repeat_fault` meets its contract: two receives of one send are of one worker (`repeats-again`), and the numbers from 0 on are
+-- those of all sends (`within-all`). Assumes nothing.
 use Rattle.repeats.specs.Repeats.{repeatFault}
 use Rattle.repeats.proofs.Again.{repeats-again}
 use Rattle.repeats.proofs.Places.{within-all}

@@ -1,4 +1,5 @@
--- `repeats::some_falls` meets its contract. Assumes nothing.
+-- `repeats::some_falls` meets its contract: after w turns none of the first w workers receives a send again, since `worker_falls` said no
+-- of each of them. Assumes nothing.
 use mathlib.Core.Path.{refl, sym}
 use mathlib.Core.Bool.{false≢true}
 use Prim.Native.Nat.{_-_}

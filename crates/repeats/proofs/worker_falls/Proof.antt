@@ -1,4 +1,5 @@
--- `repeats::worker_falls` meets its contract. Assumes nothing.
+-- `repeats::worker_falls` meets its contract: after k turns the row has for each peer at least every send of it that the first k events
+-- name, and none of these receives again: a receive that passes names a send above its peer's word. Assumes nothing.
 use mathlib.Core.Path.{_≡_, refl, sym, _∙_}
 use mathlib.Core.Bool.{true, false≢true}
 use Prim.Native.Nat.{_+_, _-_, _<_}

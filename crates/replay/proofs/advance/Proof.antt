@@ -1,4 +1,5 @@
--- `replay::advance` meets its contract. Assumes nothing.
+-- `replay::advance` meets its contract: the answer is 0 only for a worker of the log (`done-ready`), whose position word is then raised by
+-- 1; with any other answer no word changes. Assumes nothing.
 use mathlib.Core.Path.{sym, _∙_}
 use Prim.Native.Nat.{_<_, _≤_}
 use native.Mathlib.Omega.{arith}

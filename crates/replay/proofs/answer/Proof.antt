@@ -1,4 +1,5 @@
--- `replay::answer` meets its contract. Assumes nothing.
+-- `replay::answer` meets its contract: 12 where the worker is none of the log's, 21 where its position is at its cut, else the answer to
+-- event position + 1, whose peer has a position and a start (`peer-within`). Assumes nothing.
 use Prim.Native.Nat.{_<_}
 use borrow.Author.Tests.{le-leb, lt-leb}
 use native.Mathlib.Omega.{arith}

@@ -1,4 +1,5 @@
--- `replay::event_answer` meets its contract. Assumes nothing.
+-- `replay::event_answer` meets its contract: a receive without its data awaits a send above the sender's position (22), else has lost one
+-- up to the sender's start (23); any other event fails both tests (`compared-waits`, `compared-come`). Assumes nothing.
 use mathlib.Core.Path.{sym, _∙_}
 use mathlib.Core.Bool.{true, false}
 use Rattle.replay.proofs.Compared.{compared-waits, compared-come}

@@ -1,4 +1,5 @@
--- `replay::is_disordered` meets its contract. Assumes nothing.
+-- `replay::is_disordered` meets its contract: the tests are start <= position, position <= cut and cut <= count, in the order of
+-- `disordered`, and the first that fails gives yes. Assumes nothing.
 use borrow.Author.Tests.{le-leb, lt-leb}
 use Rattle.accept.proofs.Accepted.{accepted-layout}
 use Rattle.ranges.proofs.Order.{ltb-not-leb}

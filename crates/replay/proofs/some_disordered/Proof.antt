@@ -1,4 +1,5 @@
--- `replay::some_disordered` meets its contract. Assumes nothing.
+-- `replay::some_disordered` meets its contract: before turn w each of the first w workers has start <= position <= cut <= count; the first
+-- that has not ends the loop with yes. Assumes nothing.
 use mathlib.Core.Path.{_≡_, sym, _∙_}
 use mathlib.Core.Bool.{false}
 use Prim.Native.Nat.{_≤_, _-_}

@@ -1,4 +1,5 @@
--- `replay::state_refusal` meets its contract. Assumes nothing.
+-- `replay::state_refusal` meets its contract: 14 is returned where plan words, positions or what else is lent are too few; else each worker
+-- has its words, and `some_disordered` decides 16. Assumes nothing.
 use mathlib.Core.Path.{_≡_, sym, _∙_}
 use Prim.Native.Nat.{_*_}
 use lib.ListN.{length}

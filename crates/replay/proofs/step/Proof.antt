@@ -1,4 +1,5 @@
--- `replay::step` meets its contract. Assumes nothing.
+-- `replay::step` meets its contract: a number other than 0 of `step_refusal` is the answer, with no change (`step-refused`); where it is 0
+-- (`step-ok`) answer and positions are the machine's (`step-answer`, `step-positions`). Assumes nothing.
 use mathlib.Core.Path.{sym}
 use Rattle.lent.proofs.Left.{left-by}
 use Rattle.replay_machine.proofs.Call.{step-ok, step-refused, step-answer, step-positions}

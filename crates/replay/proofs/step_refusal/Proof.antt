@@ -1,4 +1,5 @@
--- `replay::step_refusal` meets its contract. Assumes nothing.
+-- `replay::step_refusal` meets its contract: the log's number is returned where it is not 0; where it is 0 the log is accepted, and
+-- `or_else` gives 12 before 14 and 16. Assumes nothing.
 use mathlib.Core.Path.{sym, _∙_}
 use borrow.Author.Tests.{eq-eqb, ne-eqb}
 use Rattle.lent.specs.Lent.{orElse}

@@ -1,4 +1,5 @@
--- `restore::cut_words` meets its contract. Assumes nothing.
+-- `restore::cut_words` meets its contract: `found_cut` leaves the lower cut in the first n words, and `spread` moves each of them to the
+-- first plan word of its worker. Assumes nothing.
 use mathlib.Core.Path.{sym, _∙_}
 use native.Mathlib.Omega.{arith}
 use lib.Seq.{length-take-le, take-at}

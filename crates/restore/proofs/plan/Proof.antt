@@ -1,4 +1,5 @@
--- `restore::plan` meets its contract. Assumes nothing.
+-- `restore::plan` meets its contract: the number is `plan_refusal`'s; where it is 0 (`plan-ok`) the first 3 × n words are the plan's, from
+-- which floor and identifiers follow (`floor-left`, `shown-left`), else no word changes. Assumes nothing.
 use mathlib.Core.Path.{refl, sym, _∙_}
 use Prim.Native.Nat.{_*_}
 use native.Mathlib.Omega.{arith}

@@ -1,4 +1,5 @@
--- `restore::plan_found` meets its contract. Assumes nothing.
+-- `restore::plan_found` meets its contract: the words become the plan of the lower cut, and its cut and starts are read back from them
+-- (`plan-cuts`, `plan-starts-in`), so the events and units counted are those of the plan. Assumes nothing.
 use mathlib.Core.Path.{sym, _∙_, ap}
 use native.Mathlib.Omega.{arith}
 use lib.Seq.{length-take-le}

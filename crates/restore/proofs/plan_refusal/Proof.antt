@@ -1,4 +1,5 @@
--- `restore::plan_refusal` meets its contract. Assumes nothing.
+-- `restore::plan_refusal` meets its contract: `or_else` gives the number of the search where that is not 0, and the table's, which is 27 or
+-- 0, where it is. Assumes nothing.
 use borrow.Author.Needs.{needs}
 use Rattle.restore_plan.specs.Calls.{planRefusal}
 use Rattle.restore.proofs.plan_refusal.Statement.{statement}

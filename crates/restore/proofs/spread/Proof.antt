@@ -1,4 +1,5 @@
--- `restore::spread` meets its contract. Assumes nothing.
+-- `restore::spread` meets its contract: with w words left to move, the first w words are the cut's as lent, and each worker from w on has
+-- its cut in its first plan word. Assumes nothing.
 use mathlib.Core.Path.{sym, _∙_}
 use native.Mathlib.Omega.{arith}
 use Rattle.restore.proofs.Spreading.{Spread, spread-none, spread-more, spread-all}

@@ -1,4 +1,5 @@
--- `restore::write_plan` meets its contract. Assumes nothing.
+-- `restore::write_plan` meets its contract: the four stores put visits, events, units and workers word in the first four words, in this
+-- order, and leave the others (`stored-words`). Assumes nothing.
 use native.Mathlib.Omega.{arith}
 use lib.ListN.{length-set}
 use Rattle.lent.proofs.Lent.{storeEach, stored-words}

@@ -1,4 +1,5 @@
--- `starts::begin` meets its contract. Assumes nothing.
+-- `starts::begin` meets its contract: after w turns each of the first w workers has its latest checkpoint within the cut that may
+-- be chosen, with no event looked at yet; no startable choice has a later start (`begun-all`). Assumes nothing.
 use mathlib.Core.Path.{sym, _∙_}
 use Prim.Native.Nat.{_+_, _-_, _*_, _<_, _≤_}
 use native.Mathlib.Omega.{arith}

@@ -1,4 +1,5 @@
--- `starts::finish` meets its contract. Assumes nothing.
+-- `starts::finish` meets its contract: after w turns the third word of each of the first w workers is the identifier of the
+-- checkpoint whose number stood there, and every other word is as before. Assumes nothing.
 use Prim.Native.Nat.{_+_, _-_, _*_, _≤_}
 use native.Mathlib.Omega.{arith}
 use native.Mathlib.Nat.{le-antisymm}

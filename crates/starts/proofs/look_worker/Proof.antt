@@ -1,4 +1,5 @@
--- `starts::look_worker` meets its contract. Assumes nothing.
+-- `starts::look_worker` meets its contract: with x left, the events of worker w after x have been looked at, and w starts where it
+-- did, since the sender of a receive is another worker; at the end none after that start is left. Assumes nothing.
 use mathlib.Core.Path.{sym, _∙_}
 use native.Mathlib.Omega.{arith}
 use Rattle.log.specs.Layout.{workersOf}

@@ -1,4 +1,5 @@
--- `starts::may_start_below` meets its contract. Assumes nothing.
+-- `starts::may_start_below` meets its contract: a checkpoint that may not be chosen gives no; for any other the answer is whether
+-- its index is below `bound`. Assumes nothing.
 use borrow.Author.Tests.{not-true, not-false}
 use Rattle.accept.proofs.Accepted.{accepted-layout}
 use Rattle.starts.specs.Inner.Rollback.{mayStartBelow}

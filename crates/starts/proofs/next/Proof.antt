@@ -1,4 +1,5 @@
--- `starts::next` meets its contract. Assumes nothing.
+-- `starts::next` meets its contract: before turn w none of the first w workers has an event left to look at; the first that has is
+-- returned, and n where none has. Assumes nothing.
 use mathlib.Core.Path.{_≡_}
 use mathlib.Core.Bool.{false}
 use Prim.Native.Nat.{_≤_, _-_}

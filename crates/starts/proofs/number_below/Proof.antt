@@ -1,4 +1,5 @@
--- `starts::number_below` meets its contract. Assumes nothing.
+-- `starts::number_below` meets its contract: the number sought up to `from` is the one sought up to c, since each number passed
+-- may not be chosen or has no index below `bound`; at c = 0 it is 0 (`number-zero`). Assumes nothing.
 use mathlib.Core.Path.{_≡_, refl, sym, _∙_}
 use native.Mathlib.Omega.{arith}
 use Rattle.log.specs.Layout.{workersOf}

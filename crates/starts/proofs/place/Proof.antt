@@ -1,4 +1,5 @@
--- `starts::place` meets its contract. Assumes nothing.
+-- `starts::place` meets its contract: the two stores put the index of checkpoint c in the worker's second word and the number c in
+-- its third. Assumes nothing.
 use native.Mathlib.Omega.{arith}
 use lib.ListN.{length-set}
 use Rattle.accept.proofs.Accepted.{accepted-layout}

@@ -1,4 +1,5 @@
--- `starts::plan_into` meets its contract. Assumes nothing.
+-- `starts::plan_into` meets its contract: `begin` and `settle` leave the cut in the first word of each worker (`rolling-cut`), and
+-- the starts of `settle` with the identifiers of `finish` are the plan of that cut (`finished-plan`). Assumes nothing.
 use mathlib.Core.Path.{_∙_}
 use Rattle.starts.proofs.Settling.{rolling-cut}
 use Rattle.starts.proofs.Finished.{finished-plan}

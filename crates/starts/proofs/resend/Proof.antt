@@ -1,4 +1,5 @@
--- `starts::resend` meets its contract. Assumes nothing.
+-- `starts::resend` meets its contract: an event that loses no send changes no word; where a receive loses its send, the sender
+-- gets its last checkpoint below the send, and it has words, since a peer is a worker of the log (`peer-wide`). Assumes nothing.
 use mathlib.Core.Path.{_∙_}
 use borrow.Author.Tests.{not-true, not-false}
 use Rattle.accept.proofs.Accepted.{accepted-layout}

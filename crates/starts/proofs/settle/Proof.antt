@@ -1,4 +1,5 @@
--- `starts::settle` meets its contract. Assumes nothing.
+-- `starts::settle` meets its contract: each turn looks at the first worker with events left and keeps `RollingBack`; where no
+-- worker has any left, the starts are the latest that are startable, which are the plan's (`settled`). Assumes nothing.
 use mathlib.Core.Path.{_≡_, sym, _∙_}
 use Prim.Native.Nat.{_<_}
 use Rattle.ranges.specs.Fold.{firstBelow, sumBelow}

@@ -1,4 +1,5 @@
--- `unit_table::some_unit_fault` meets its contract. Assumes nothing.
+-- `unit_table::some_unit_fault` meets its contract: after k turns none of the first k words is outside 1 to 1,000; the turn that finds one
+-- returns yes, the end of the loop no. Assumes nothing.
 use mathlib.Core.Path.{refl}
 use Prim.Native.Nat.{_-_}
 use native.Mathlib.Omega.{arith}

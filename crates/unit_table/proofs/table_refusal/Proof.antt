@@ -1,4 +1,5 @@
--- `unit_table::table_refusal` meets its contract. Assumes nothing.
+-- `unit_table::table_refusal` meets its contract: the branches are taken where there are not 12 words, and where some word is outside 1 to
+-- 1,000; else `tableRefusal` is 0. Assumes nothing.
 use mathlib.Core.Path.{_≡_}
 use native.Mathlib.Omega.{arith}
 use borrow.Author.Needs.{needs}

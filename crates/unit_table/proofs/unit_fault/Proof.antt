@@ -1,4 +1,5 @@
--- `unit_table::unit_fault` meets its contract. Assumes nothing.
+-- `unit_table::unit_fault` meets its contract: the branch is taken where the word is below 1; else `unitFault` is whether it is over 1,000.
+-- Assumes nothing.
 use native.Mathlib.Omega.{arith}
 use borrow.Author.Needs.{needs}
 use borrow.Author.Tests.{lt-ltb, le-ltb}

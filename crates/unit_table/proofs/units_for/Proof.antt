@@ -1,4 +1,5 @@
--- `unit_table::units_for` meets its contract. Assumes nothing.
+-- `unit_table::units_for` meets its contract: the word read is at 3 × role + column, below 12 since the role is below 4 and the column
+-- below 3. Assumes nothing.
 use borrow.Author.Needs.{needs}
 use Rattle.unit_table.specs.Table.{tableOf}
 use Rattle.unit_table.proofs.units_for.Statement.{statement}

@@ -1,4 +1,5 @@
--- `unit_table::write_built_in` meets its contract. Assumes nothing.
+-- `unit_table::write_built_in` meets its contract: after j turns word i, for i below j, is that of row i / 3 and column i % 3; all 12 are
+-- `builtInWords`, and these load (`built-in-loads`). Assumes nothing.
 use mathlib.Core.Path.{_≡_, refl, _∙_}
 use mathlib.Core.List.{_++_}
 use Prim.Native.Nat.{_≤_, _-_}

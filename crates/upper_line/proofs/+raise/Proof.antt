@@ -1,4 +1,5 @@
--- `upper_line::raise` meets its contract: each turn of its loop moves its worker on, or the sender that it awaits. Assumes nothing.
+-- `upper_line::raise` meets its contract: each turn of its loop passes an event that is not blocked, or moves the sender that it awaits on
+-- as far as the send; where that sender stops before it, the breakpoint event happened before the receive too. Assumes nothing.
 use mathlib.Core.Logic.{inl, inr}
 use Prim.Native.Nat.{ℕ, _<_}
 use native.Mathlib.Nat.{lt-of-lt-of-le}

@@ -1,4 +1,5 @@
--- `upper_line::is_blocked` meets its contract. Assumes nothing.
+-- `upper_line::is_blocked` meets its contract: a receive is blocked where its send is beyond the line or is the breakpoint event; a send
+-- names 0, which is neither, so its kind need not be asked for (`blocked-any`). Assumes nothing.
 use native.Mathlib.Omega.{arith}
 use borrow.Author.Tests.{lt-ltb, le-ltb, eq-eqb, ne-eqb}
 use Rattle.log.proofs.Read.{count-field}

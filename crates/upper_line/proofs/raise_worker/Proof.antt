@@ -1,4 +1,5 @@
--- `upper_line::raise_worker` meets its contract. Assumes nothing.
+-- `upper_line::raise_worker` meets its contract: the breakpoint's own worker stays, since the breakpoint event happened before its next
+-- event if it has one (`raised-own`); any other is moved on by `raise`, with its event count as the target. Assumes nothing.
 use borrow.Author.Needs.{needs}
 use Rattle.accept.proofs.Accepted.{accepted-layout, well-formed}
 use Rattle.upper_line.proofs.Raising.{raised-own}

@@ -1,4 +1,5 @@
--- `upper_line::upper_into` meets its contract. Assumes nothing.
+-- `upper_line::upper_into` meets its contract: before turn w each of the first w workers is at its last event, or the breakpoint event
+-- happened before its next one; where this holds of all n, the line is the upper line (`lined-upper`). Assumes nothing.
 use mathlib.Core.Path.{sym, _∙_}
 use Prim.Native.Nat.{_-_}
 use native.Mathlib.Omega.{arith}

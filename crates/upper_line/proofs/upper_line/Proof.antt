@@ -1,4 +1,5 @@
--- `upper_line::upper_line` meets its contract. Assumes nothing.
+-- `upper_line::upper_line` meets its contract: the number is `line_refusal`'s; where it is 0 (`line-ok`) the upper line, of one word for
+-- each worker, is written to the first n words, else no word changes (`untouched`). Assumes nothing.
 use mathlib.Core.Path.{refl, sym, _∙_}
 use lib.Seq.{length-take-le}
 use native.Mathlib.Omega.{arith}

@@ -1,5 +1,6 @@
--- `lower_cut::figure2::visit` meets its contract: each turn of its loop is a turn of Figure 2.
--- Assumes nothing.
+-- `lower_cut::figure2::visit` meets its contract: before each turn of its loop the turns of Figure 2 below worker v are made, and the turns
+-- copied from the row are the next ones that are not idle (`Going`); a turn fills the row again, passes over a worker that the cut has
+-- covered since, or visits below. Assumes nothing.
 use mathlib.Core.Path.{refl, sym, _∙_, ap}
 use Prim.Native.Nat.{ℕ, _+_, _*_, _-_, _<_}
 use native.Mathlib.Omega.{arith}

@@ -1,4 +1,5 @@
--- `lower_cut::figure2::next_turns` meets its contract. Assumes nothing.
+-- `lower_cut::figure2::next_turns` meets its contract: before worker w is looked at, the j turns copied are the first j from v on, and no
+-- worker after the last of them and before w has a component above the cut; the list ends at 16, or with n behind it. Assumes nothing.
 use mathlib.Core.Path.{_≡_, refl, sym, _∙_}
 use Prim.Native.Nat.{_-_}
 use native.Mathlib.Omega.{arith}

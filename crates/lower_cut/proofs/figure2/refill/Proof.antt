@@ -1,4 +1,5 @@
--- `lower_cut::figure2::refill` meets its contract. Assumes nothing.
+-- `lower_cut::figure2::refill` meets its contract: a row that is not stale is already what the events name, as the function requires; a
+-- stale one is written again by `row_into`. Assumes nothing.
 use borrow.Author.Tests.{not-true}
 use borrow.Author.Needs.{needs}
 use Rattle.lower_cut.proofs.figure2.refill.Statement.{statement}

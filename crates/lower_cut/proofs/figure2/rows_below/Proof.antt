@@ -1,4 +1,5 @@
--- `lower_cut::figure2::rows_below` meets its contract. Assumes nothing.
+-- `lower_cut::figure2::rows_below` meets its contract: fewer than 2 × n words give 0, any other number gives n: the one test of
+-- `rowsBelow`. Assumes nothing.
 use borrow.Author.Tests.{lt-ltb, le-ltb}
 use Rattle.lower_cut.specs.Inner.Turns.{rowsBelow}
 use borrow.Author.Needs.{needs}

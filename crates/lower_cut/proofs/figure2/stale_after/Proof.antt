@@ -1,4 +1,5 @@
--- `lower_cut::figure2::stale_after` meets its contract. Assumes nothing.
+-- `lower_cut::figure2::stale_after` meets its contract: a stale row stays stale; a row that the visit below does not share stays valid; a
+-- shared one does if and only if that visit made no other. Assumes nothing.
 use borrow.Author.Tests.{eq-eqb, ne-eqb}
 use native.Mathlib.Omega.{arith}
 use Rattle.lower_cut.specs.Inner.Turns.{staleAfter}

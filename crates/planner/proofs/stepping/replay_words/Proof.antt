@@ -1,4 +1,5 @@
--- `planner::stepping::replay_words` meets its contract. Assumes nothing.
+-- `planner::stepping::replay_words` meets its contract: `write_starts` makes the positions the starts of the plan words, so what
+-- `step_each` leaves is the machine's run from these. Assumes nothing.
 use mathlib.Core.Path.{_∙_}
 use Rattle.cost.specs.Words.{startsIn}
 use borrow.Author.Needs.{needs}

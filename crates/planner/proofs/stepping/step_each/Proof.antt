@@ -1,4 +1,5 @@
--- `planner::stepping::step_each` meets its contract. Assumes nothing.
+-- `planner::stepping::step_each` meets its contract: after j turns the first j × (n + 1) words are the answers and positions of the
+-- machine's run of the first j numbers, and the positions are those after it, still between starts and cuts. Assumes nothing.
 use mathlib.Core.Path.{_≡_, refl, _∙_}
 use Prim.Native.Nat.{_+_, _-_, _*_}
 use native.Mathlib.Omega.{arith}

@@ -1,4 +1,5 @@
--- `planner::stepping::store` meets its contract. Assumes nothing.
+-- `planner::stepping::store` meets its contract: the answer is stored in the first word, and the words after it, which are as many as the
+-- positions, become these (`put-rest`). Assumes nothing.
 use mathlib.Core.Path.{sym, _∙_}
 use native.Mathlib.Omega.{arith}
 use native.Mathlib.Numerals.{add-one}

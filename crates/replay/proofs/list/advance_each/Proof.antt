@@ -1,4 +1,5 @@
--- `replay::list::advance_each` meets its contract. Assumes nothing.
+-- `replay::list::advance_each` meets its contract: after j turns the first j answers and the positions are those of the machine's run of
+-- the first j numbers, and each position is still between its start and its cut. Assumes nothing.
 use mathlib.Core.Path.{_≡_, refl}
 use Prim.Native.Nat.{_-_, _*_}
 use native.Mathlib.Omega.{arith}

@@ -1,4 +1,5 @@
--- `replay::list::others_refusal` meets its contract. Assumes nothing.
+-- `replay::list::others_refusal` meets its contract: `or_else` gives 14 for totals, positions and steps in this order; the quotient of the
+-- steps is below the calls exactly where the steps are below calls × (n + 1) (`room-quotient`). Assumes nothing.
 use Rattle.accept.proofs.Accepted.{accepted-layout}
 use Rattle.replay_machine.specs.Calls.{othersRefusal}
 use Rattle.replay.proofs.Storing.{room-quotient}

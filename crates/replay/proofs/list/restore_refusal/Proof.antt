@@ -1,4 +1,5 @@
--- `replay::list::restore_refusal` meets its contract. Assumes nothing.
+-- `replay::list::restore_refusal` meets its contract: a log that is refused gives its number, as it does in `planRefusal`
+-- (`plan-refused-log`); for an accepted one `plan_refusal` gives the number, with that of `others_refusal` as `others`. Assumes nothing.
 use mathlib.Core.Path.{sym, _∙_}
 use Rattle.restore_plan.proofs.PlanTable.{plan-refused-log}
 use Rattle.replay_machine.specs.Calls.{restoreRefusal}

@@ -1,4 +1,5 @@
--- `replay::list::steps` meets its contract. Assumes nothing.
+-- `replay::list::steps` meets its contract: the number is `steps_refusal`'s; where it is 0 (`steps-ok`) positions and answers are those of
+-- the machine's run, else no word of either changes (`untouched`). Assumes nothing.
 use mathlib.Core.Path.{refl, sym, _∙_}
 use Rattle.lent.proofs.Lent.{words-ok, written, whole, untouched}
 use Rattle.lent.proofs.Left.{leaves-both-by}

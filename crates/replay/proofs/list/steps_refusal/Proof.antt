@@ -1,4 +1,5 @@
--- `replay::list::steps_refusal` meets its contract. Assumes nothing.
+-- `replay::list::steps_refusal` meets its contract: the log's number is returned where it is not 0; where it is 0 the log is accepted, and
+-- `state_refusal` gives 14 and 16. Assumes nothing.
 use mathlib.Core.Path.{sym, _∙_}
 use borrow.Author.Tests.{eq-eqb, ne-eqb}
 use Rattle.lent.specs.Lent.{orElse}
