@@ -47,13 +47,4 @@ returns c = c .before .loop .inv .2 ∙ rw (le-antisymm (c .before .loop .inv .1
 pub note-all-spec : {M : Type 1} → statement M
 note-all-spec =
     tie.close
-    (tie.spec
-    Inv-loop
-    μ-loop
-    loop-holds
-    note-requires
-    add-k
-    loop-less
-    loop-again
-    same-length
-    returns)
+    (tie.spec Inv-loop μ-loop loop-holds note-requires add-k loop-less loop-again same-length returns)

@@ -48,14 +48,4 @@ returns-2 c = sought-end (c .before .loop .inv) (c .loop-test .left) (c .before 
 pub some-lacks-spec : {M : Type 1} → statement M
 some-lacks-spec =
     tie.close
-    (tie.spec
-    Inv-loop
-    μ-loop
-    worker-count-requires
-    loop-holds
-    worker-lacks-requires
-    returns
-    add-w
-    loop-less
-    loop-again
-    returns-2)
+    (tie.spec Inv-loop μ-loop worker-count-requires loop-holds worker-lacks-requires returns add-w loop-less loop-again returns-2)

@@ -58,16 +58,4 @@ returns-2 c = sought-end (c .before .loop .inv) (c .loop-test .left) (c .before 
 pub some-over-count-spec : {M : Type 1} → statement M
 some-over-count-spec =
     tie.close
-    (tie.spec
-    Inv-loop
-    μ-loop
-    worker-count-requires
-    loop-holds
-    event-count-requires
-    mul-if1
-    shared-slice-read-if1
-    returns
-    add-w
-    loop-less
-    loop-again
-    returns-2)
+    (tie.spec Inv-loop μ-loop worker-count-requires loop-holds event-count-requires mul-if1 shared-slice-read-if1 returns add-w loop-less loop-again returns-2)

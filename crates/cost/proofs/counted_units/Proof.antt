@@ -61,18 +61,5 @@ returns c = rw (← c .before .before .units-for .ensures, ← c .before .units-
 pub counted-units-spec : {M : Type 1} → statement M
 counted-units-spec =
     tie.close
-    (tie.spec
-    (λ c. search needs)
-    (λ c. search needs)
-    units-for-requires
-    (λ c. search needs)
-    mul-result
-    units-for-requires-2
-    (λ c. search needs)
-    mul-result-2
-    add-result
-    units-for-requires-3
-    (λ c. search needs)
-    mul-result-3
-    add-result-2
-    returns)
+    (tie.spec (λ c. search needs) (λ c. search needs) units-for-requires (λ c. search needs) mul-result units-for-requires-2 (λ c. search needs) mul-result-2 add-result
+    units-for-requires-3 (λ c. search needs) mul-result-3 add-result-2 returns)

@@ -59,14 +59,4 @@ returns c = rw (le-antisymm (c .before .loop .inv .0) (c .loop-test .left), c .b
 pub units-of-spec : {M : Type 1} → statement M
 units-of-spec =
     tie.close
-    (tie.spec
-    Inv-loop
-    μ-loop
-    worker-count-requires
-    loop-holds
-    worker-units-requires
-    add-units
-    add-w
-    loop-less
-    loop-again
-    returns)
+    (tie.spec Inv-loop μ-loop worker-count-requires loop-holds worker-units-requires add-units add-w loop-less loop-again returns)

@@ -115,21 +115,5 @@ returns c =
 pub worker-units-spec : {M : Type 1} → statement M
 worker-units-spec =
     tie.close
-    (tie.spec
-    Inv-loop
-    μ-loop
-    cut-in-requires
-    start-in-requires
-    loop-holds
-    add-event-at
-    event-at-requires
-    (λ c κs. search needs)
-    add-counts
-    add-k
-    loop-less
-    loop-again
-    role-of-requires
-    (λ c. search needs)
-    sub-counted-units
-    counted-units-requires
-    returns)
+    (tie.spec Inv-loop μ-loop cut-in-requires start-in-requires loop-holds add-event-at event-at-requires (λ c κs. search needs) add-counts add-k loop-less loop-again
+    role-of-requires (λ c. search needs) sub-counted-units counted-units-requires returns)

@@ -61,18 +61,5 @@ returns c = let e = le-antisymm (c .before .loop .inv .0) (rw (c .before .loop .
 pub write-starts-spec : {M : Type 1} → statement M
 write-starts-spec =
     tie.close
-    (tie.spec
-    Inv-loop
-    μ-loop
-    loop-holds
-    mul-positions
-    add-positions
-    mul-positions-2
-    shared-slice-read-positions
-    mul-positions-3
-    slice-write-positions
-    add-w
-    loop-less
-    loop-again
-    same-length
-    returns)
+    (tie.spec Inv-loop μ-loop loop-holds mul-positions add-positions mul-positions-2 shared-slice-read-positions mul-positions-3 slice-write-positions add-w loop-less
+    loop-again same-length returns)

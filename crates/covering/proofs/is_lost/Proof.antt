@@ -53,14 +53,5 @@ returns-2 c =
 pub is-lost-spec : {M : Type 1} → statement M
 is-lost-spec =
     tie.close
-    (tie.spec
-    add-x
-    mul-if1
-    shared-slice-read-if1
-    returns
-    event-at-requires
-    (λ c. search needs)
-    (λ c. search needs)
-    shared-slice-read-loses-send
-    (λ c κs. search needs)
+    (tie.spec add-x mul-if1 shared-slice-read-if1 returns event-at-requires (λ c. search needs) (λ c. search needs) shared-slice-read-loses-send (λ c κs. search needs)
     returns-2)

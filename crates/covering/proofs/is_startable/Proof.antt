@@ -50,14 +50,4 @@ returns-2 c = ap not (sought-end (c .before .loop .inv) (c .loop-test .left) (c 
 pub is-startable-spec : {M : Type 1} → statement M
 is-startable-spec =
     tie.close
-    (tie.spec
-    Inv-loop
-    μ-loop
-    worker-count-requires
-    loop-holds
-    worker-lost-requires
-    returns
-    add-w
-    loop-less
-    loop-again
-    returns-2)
+    (tie.spec Inv-loop μ-loop worker-count-requires loop-holds worker-lost-requires returns add-w loop-less loop-again returns-2)

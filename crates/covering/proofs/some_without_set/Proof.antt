@@ -108,20 +108,5 @@ returns-2 c =
 pub some-without-set-spec : {M : Type 1} → statement M
 some-without-set-spec =
     tie.close
-    (tie.spec
-    Inv-loop
-    μ-loop
-    worker-count-requires
-    loop-holds
-    set-number-requires
-    checkpoint-count-requires
-    same-length
-    returns
-    checkpoint-at-requires
-    mul-indices
-    slice-write-indices
-    add-w
-    loop-less
-    loop-again
-    same-length-2
-    returns-2)
+    (tie.spec Inv-loop μ-loop worker-count-requires loop-holds set-number-requires checkpoint-count-requires same-length returns checkpoint-at-requires mul-indices
+    slice-write-indices add-w loop-less loop-again same-length-2 returns-2)

@@ -51,14 +51,4 @@ returns-2 c = sought-end (c .before .loop .inv) (c .loop-test .left) (c .before 
 pub worker-lost-spec : {M : Type 1} → statement M
 worker-lost-spec =
     tie.close
-    (tie.spec
-    Inv-loop
-    μ-loop
-    event-count-requires
-    loop-holds
-    is-lost-requires
-    returns
-    add-k
-    loop-less
-    loop-again
-    returns-2)
+    (tie.spec Inv-loop μ-loop event-count-requires loop-holds is-lost-requires returns add-k loop-less loop-again returns-2)

@@ -49,14 +49,4 @@ returns-2 c = sought-end (c .before .loop .inv) (c .loop-test .left) (c .before 
 pub block-fault-spec : {M : Type 1} → statement M
 block-fault-spec =
     tie.close
-    (tie.spec
-    Inv-loop
-    μ-loop
-    worker-count-requires
-    loop-holds
-    events-fault-requires
-    returns
-    add-w
-    loop-less
-    loop-again
-    returns-2)
+    (tie.spec Inv-loop μ-loop worker-count-requires loop-holds events-fault-requires returns add-w loop-less loop-again returns-2)

@@ -48,11 +48,4 @@ returns-3 c =
 pub events-fault-spec : {M : Type 1} → statement M
 events-fault-spec =
     tie.close
-    (tie.spec
-    (λ c κs. search needs)
-    returns
-    (λ c κs. search needs)
-    (λ c κs. search needs)
-    returns-2
-    listed-fault-requires
-    returns-3)
+    (tie.spec (λ c κs. search needs) returns (λ c κs. search needs) (λ c κs. search needs) returns-2 listed-fault-requires returns-3)

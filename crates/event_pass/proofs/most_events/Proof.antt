@@ -44,14 +44,4 @@ returns c =
 pub most-events-spec : {M : Type 1} → statement M
 most-events-spec =
     tie.close
-    (tie.spec
-    Inv-loop
-    μ-loop
-    (λ c κs. search needs)
-    loop-holds
-    event-count-requires
-    (λ c κs. search needs)
-    add-w
-    loop-less
-    loop-again
-    returns)
+    (tie.spec Inv-loop μ-loop (λ c κs. search needs) loop-holds event-count-requires (λ c κs. search needs) add-w loop-less loop-again returns)

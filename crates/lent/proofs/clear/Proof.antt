@@ -46,14 +46,4 @@ returns c = let e = le-antisymm (c .before .loop .inv .0) (rw (c .before .loop .
 pub clear-spec : {M : Type 1} → statement M
 clear-spec =
     tie.close
-    (tie.spec
-    Inv-loop
-    μ-loop
-    loop-holds
-    mul-words
-    slice-write-words
-    add-w
-    loop-less
-    loop-again
-    same-length
-    returns)
+    (tie.spec Inv-loop μ-loop loop-holds mul-words slice-write-words add-w loop-less loop-again same-length returns)

@@ -48,15 +48,4 @@ returns c = c .before .loop .inv .2 ∙ rw (take-all (c .before .loop .k) (c .be
 pub copy-bytes-spec : {M : Type 1} → statement M
 copy-bytes-spec =
     tie.close
-    (tie.spec
-    Inv-loop
-    μ-loop
-    loop-holds
-    shared-slice-read-to
-    add-to
-    slice-write-to
-    add-k
-    loop-less
-    loop-again
-    same-length
-    returns)
+    (tie.spec Inv-loop μ-loop loop-holds shared-slice-read-to add-to slice-write-to add-k loop-less loop-again same-length returns)

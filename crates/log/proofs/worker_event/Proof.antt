@@ -39,16 +39,5 @@ returns-3 c =
 pub worker-event-spec : {M : Type 1} → statement M
 worker-event-spec =
     tie.close
-    (tie.spec
-    entry-requires
-    (λ c κs. search needs)
-    returns
-    (λ c κs. search needs)
-    returns-2
-    entry-requires-2
-    (λ c. search needs)
-    (λ c. search needs)
-    (λ c. search needs)
-    (λ c. search needs)
-    event-in-requires
-    returns-3)
+    (tie.spec entry-requires (λ c κs. search needs) returns (λ c κs. search needs) returns-2 entry-requires-2 (λ c. search needs) (λ c. search needs) (λ c. search needs)
+    (λ c. search needs) event-in-requires returns-3)

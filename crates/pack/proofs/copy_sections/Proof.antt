@@ -48,12 +48,4 @@ returns c =
 pub copy-sections-spec : {M : Type 1} → statement M
 copy-sections-spec =
     tie.close
-    (tie.spec
-    (λ c κs. search needs)
-    (λ c κs. search needs)
-    add-behind
-    copy-bytes-requires
-    copy-bytes-requires-2
-    add-result
-    (λ c. search needs)
-    returns)
+    (tie.spec (λ c κs. search needs) (λ c κs. search needs) add-behind copy-bytes-requires copy-bytes-requires-2 add-result (λ c. search needs) returns)

@@ -53,16 +53,4 @@ returns c =
 pub packed-length-spec : {M : Type 1} → statement M
 packed-length-spec =
     tie.close
-    (tie.spec
-    Inv-loop
-    μ-loop
-    (λ c κs. search needs)
-    cast-header-of
-    (λ c κs. search needs)
-    loop-holds
-    sections-size-requires
-    add-at
-    add-w
-    loop-less
-    loop-again
-    returns)
+    (tie.spec Inv-loop μ-loop (λ c κs. search needs) cast-header-of (λ c κs. search needs) loop-holds sections-size-requires add-at add-w loop-less loop-again returns)

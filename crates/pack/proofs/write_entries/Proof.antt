@@ -73,18 +73,5 @@ returns c = written-end (c .before .loop .inv .1) (c .loop-test .left) (c .befor
 pub write-entries-spec : {M : Type 1} → statement M
 write-entries-spec =
     tie.close
-    (tie.spec
-    Inv-loop
-    μ-loop
-    worker-count-requires
-    cast-header-of
-    (λ c κs. search needs)
-    loop-holds
-    write-entry-requires
-    sections-size-requires
-    add-start
-    add-w
-    loop-less
-    loop-again
-    same-length
-    returns)
+    (tie.spec Inv-loop μ-loop worker-count-requires cast-header-of (λ c κs. search needs) loop-holds write-entry-requires sections-size-requires add-start add-w loop-less
+    loop-again same-length returns)

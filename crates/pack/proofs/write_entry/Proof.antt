@@ -61,16 +61,5 @@ returns c =
 pub write-entry-spec : {M : Type 1} → statement M
 write-entry-spec =
     tie.close
-    (tie.spec
-    (λ c κs. search needs)
-    add-behind
-    (λ c κs. search needs)
-    cast-t10
-    (λ c κs. search needs)
-    cast-t12
-    (λ c κs. search needs)
-    cast-header-of
-    (λ c κs. search needs)
-    write-numbers-requires
-    (λ c. search needs)
-    returns)
+    (tie.spec (λ c κs. search needs) add-behind (λ c κs. search needs) cast-t10 (λ c κs. search needs) cast-t12 (λ c κs. search needs) cast-header-of
+    (λ c κs. search needs) write-numbers-requires (λ c. search needs) returns)

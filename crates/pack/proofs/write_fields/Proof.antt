@@ -42,13 +42,5 @@ returns c =
 pub write-fields-spec : {M : Type 1} → statement M
 write-fields-spec =
     tie.close
-    (tie.spec
-    form-field-requires
-    write2-requires
-    (λ c κs. search needs)
-    (λ c. search needs)
-    write2-requires-2
-    (λ c. search needs)
-    write4-requires
-    (λ c. search needs)
+    (tie.spec form-field-requires write2-requires (λ c κs. search needs) (λ c. search needs) write2-requires-2 (λ c. search needs) write4-requires (λ c. search needs)
     returns)

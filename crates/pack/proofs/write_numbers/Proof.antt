@@ -58,17 +58,4 @@ returns c = written-end (c .before .loop .inv) (c .loop-test .left) refl
 pub write-numbers-spec : {M : Type 1} → statement M
 write-numbers-spec =
     tie.close
-    (tie.spec
-    Inv-loop
-    μ-loop
-    loop-holds
-    mul-write4
-    add-write4
-    mul-write4-2
-    array-read-write4
-    write4-requires
-    add-j
-    loop-less
-    loop-again
-    same-length
-    returns)
+    (tie.spec Inv-loop μ-loop loop-holds mul-write4 add-write4 mul-write4-2 array-read-write4 write4-requires add-j loop-less loop-again same-length returns)

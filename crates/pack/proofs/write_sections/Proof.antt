@@ -64,16 +64,5 @@ returns c = written-end (c .before .loop .inv .1) (c .loop-test .left) (c .befor
 pub write-sections-spec : {M : Type 1} → statement M
 write-sections-spec =
     tie.close
-    (tie.spec
-    Inv-loop
-    μ-loop
-    worker-count-requires
-    cast-header-of
-    (λ c κs. search needs)
-    loop-holds
-    copy-sections-requires
-    add-w
-    loop-less
-    loop-again
-    same-length
+    (tie.spec Inv-loop μ-loop worker-count-requires cast-header-of (λ c κs. search needs) loop-holds copy-sections-requires add-w loop-less loop-again same-length
     returns)

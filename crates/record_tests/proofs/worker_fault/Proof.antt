@@ -48,14 +48,4 @@ returns-2 c = sought-end (c .before .loop .inv) (c .loop-test .left) (c .before 
 pub worker-fault-spec : {M : Type 1} → statement M
 worker-fault-spec =
     tie.close
-    (tie.spec
-    Inv-loop
-    μ-loop
-    record-count-requires
-    loop-holds
-    record-fault-requires
-    returns
-    add-k
-    loop-less
-    loop-again
-    returns-2)
+    (tie.spec Inv-loop μ-loop record-count-requires loop-holds record-fault-requires returns add-k loop-less loop-again returns-2)

@@ -46,12 +46,5 @@ returns-3 c =
 pub mark-event-spec : {M : Type 1} → statement M
 mark-event-spec =
     tie.close
-    (tie.spec
-    (λ c κs. search needs)
-    returns
-    (λ c. omega (arith, c .before .before .before .before .before .pre .3))
-    returns-2
-    (λ c κs. search needs)
-    mark-requires
-    same-length
-    returns-3)
+    (tie.spec (λ c κs. search needs) returns (λ c. omega (arith, c .before .before .before .before .before .pre .3)) returns-2 (λ c κs. search needs) mark-requires
+    same-length returns-3)

@@ -101,19 +101,5 @@ returns-2 c =
 pub mark-worker-spec : {M : Type 1} → statement M
 mark-worker-spec =
     tie.close
-    (tie.spec
-    Inv-loop
-    μ-loop
-    (λ c κs. search needs)
-    (λ c κs. search needs)
-    (λ c. search needs)
-    loop-holds
-    event-in-requires
-    mark-event-requires
-    same-length
-    returns
-    (λ c. omega arith)
-    (λ c. omega arith)
-    loop-again
-    (λ c. c .before .loop .inv .2)
-    returns-2)
+    (tie.spec Inv-loop μ-loop (λ c κs. search needs) (λ c κs. search needs) (λ c. search needs) loop-holds event-in-requires mark-event-requires same-length returns
+    (λ c. omega arith) (λ c. omega arith) loop-again (λ c. c .before .loop .inv .2) returns-2)

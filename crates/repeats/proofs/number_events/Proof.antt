@@ -72,18 +72,5 @@ returns c =
 pub number-events-spec : {M : Type 1} → statement M
 number-events-spec =
     tie.close
-    (tie.spec
-    Inv-loop
-    μ-loop
-    (λ c κs. search needs)
-    loop-holds
-    (λ c. search needs)
-    written
-    (λ c κs. search needs)
-    add-next
-    (λ c. omega arith)
-    (λ c. omega arith)
-    loop-again
-    cast-result
-    (λ c. c .before .loop .inv .1)
-    returns)
+    (tie.spec Inv-loop μ-loop (λ c κs. search needs) loop-holds (λ c. search needs) written (λ c κs. search needs) add-next (λ c. omega arith) (λ c. omega arith)
+    loop-again cast-result (λ c. c .before .loop .inv .1) returns)

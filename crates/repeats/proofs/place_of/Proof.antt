@@ -25,13 +25,4 @@ returns c = let pre = c .before .before .before .before .before .before .pre in 
 pub place-of-spec : {M : Type 1} → statement M
 place-of-spec =
     tie.close
-    (tie.spec
-    (λ c. search needs)
-    (λ c. search needs)
-    shared-slice-read-result
-    cast-result
-    (λ c κs. search needs)
-    sub-result
-    (λ c. search needs)
-    add-result
-    returns)
+    (tie.spec (λ c. search needs) (λ c. search needs) shared-slice-read-result cast-result (λ c κs. search needs) sub-result (λ c. search needs) add-result returns)

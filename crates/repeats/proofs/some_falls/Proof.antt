@@ -27,14 +27,5 @@ returns-2 c = λ rises. sym (sought-end (c .before .loop .inv) (c .loop-test .le
 pub some-falls-spec : {M : Type 1} → statement M
 some-falls-spec =
     tie.close
-    (tie.spec
-    Inv-loop
-    μ-loop
-    (λ c κs. search needs)
-    (λ c. sought-none)
-    (λ c κs. c .before .before .before .before .pre)
-    (λ c. λ rises. absurd (false≢true (sym rises)))
-    (λ c. omega arith)
-    (λ c. omega arith)
-    loop-again
-    returns-2)
+    (tie.spec Inv-loop μ-loop (λ c κs. search needs) (λ c. sought-none) (λ c κs. c .before .before .before .before .pre) (λ c. λ rises. absurd (false≢true (sym rises)))
+    (λ c. omega arith) (λ c. omega arith) loop-again returns-2)

@@ -91,23 +91,5 @@ returns-2 c = λ rises. sym (sought-end (c .before .loop .inv .1) (c .loop-test 
 pub worker-falls-spec : {M : Type 1} → statement M
 worker-falls-spec =
     tie.close
-    (tie.spec
-    Inv-loop
-    μ-loop
-    (λ c κs. search needs)
-    (λ c κs. search needs)
-    (λ c. search needs)
-    loop-holds
-    event-in-requires
-    (λ c. search needs)
-    (λ c. search needs)
-    array-read-last
-    (λ c κs. search needs)
-    returns
-    (λ c κs. search needs)
-    (λ c. search needs)
-    array-write-row
-    (λ c. omega arith)
-    (λ c. omega arith)
-    loop-again
-    returns-2)
+    (tie.spec Inv-loop μ-loop (λ c κs. search needs) (λ c κs. search needs) (λ c. search needs) loop-holds event-in-requires (λ c. search needs) (λ c. search needs)
+    array-read-last (λ c κs. search needs) returns (λ c κs. search needs) (λ c. search needs) array-write-row (λ c. omega arith) (λ c. omega arith) loop-again returns-2)

@@ -46,14 +46,4 @@ returns-2 c = sym (rw (le-antisymm (c .before .loop .inv .0) (c .loop-test .left
 pub some-disordered-spec : {M : Type 1} → statement M
 some-disordered-spec =
     tie.close
-    (tie.spec
-    Inv-loop
-    μ-loop
-    worker-count-requires
-    loop-holds
-    is-disordered-requires
-    returns
-    add-w
-    loop-less
-    loop-again
-    returns-2)
+    (tie.spec Inv-loop μ-loop worker-count-requires loop-holds is-disordered-requires returns add-w loop-less loop-again returns-2)

@@ -58,14 +58,5 @@ returns c =
 pub plan-found-spec : {M : Type 1} → statement M
 plan-found-spec =
     tie.close
-    (tie.spec
-    (λ c κs. search needs)
-    worker-count-requires
-    slice-relend-prefix-plan-into
-    slice-aggregate-plan-into
-    plan-into-requires
-    events-of-requires
-    units-of-requires
-    (λ c. search needs)
-    (λ c. search needs)
-    returns)
+    (tie.spec (λ c κs. search needs) worker-count-requires slice-relend-prefix-plan-into slice-aggregate-plan-into plan-into-requires events-of-requires units-of-requires
+    (λ c. search needs) (λ c. search needs) returns)

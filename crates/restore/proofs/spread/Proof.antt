@@ -48,17 +48,4 @@ returns c = spread-all (c .before .before .pre) (c .before .loop .inv) (c .loop-
 pub spread-spec : {M : Type 1} → statement M
 spread-spec =
     tie.close
-    (tie.spec
-    Inv-loop
-    μ-loop
-    loop-holds
-    sub-w
-    mul-words
-    slice-read-words
-    mul-words-2
-    mul-words-3
-    slice-write-words
-    loop-less
-    loop-again
-    same-length
-    returns)
+    (tie.spec Inv-loop μ-loop loop-holds sub-w mul-words slice-read-words mul-words-2 mul-words-3 slice-write-words loop-less loop-again same-length returns)

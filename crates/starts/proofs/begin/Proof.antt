@@ -91,21 +91,5 @@ returns c =
 pub begin-spec : {M : Type 1} → statement M
 begin-spec =
     tie.close
-    (tie.spec
-    Inv-loop
-    μ-loop
-    worker-count-requires
-    loop-holds
-    cut-in-requires
-    checkpoint-count-requires
-    add-number-below
-    number-below-requires
-    place-requires
-    mul-looked
-    slice-write-looked
-    add-w
-    loop-less
-    loop-again
-    same-length
-    same-length-2
-    returns)
+    (tie.spec Inv-loop μ-loop worker-count-requires loop-holds cut-in-requires checkpoint-count-requires add-number-below number-below-requires place-requires mul-looked
+    slice-write-looked add-w loop-less loop-again same-length same-length-2 returns)

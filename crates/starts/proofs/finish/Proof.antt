@@ -69,19 +69,5 @@ returns c =
 pub finish-spec : {M : Type 1} → statement M
 finish-spec =
     tie.close
-    (tie.spec
-    Inv-loop
-    μ-loop
-    worker-count-requires
-    loop-holds
-    number-in-requires
-    checkpoint-at-requires
-    mul-words
-    add-words
-    mul-words-2
-    slice-write-words
-    add-w
-    loop-less
-    loop-again
-    same-length
-    returns)
+    (tie.spec Inv-loop μ-loop worker-count-requires loop-holds number-in-requires checkpoint-at-requires mul-words add-words mul-words-2 slice-write-words add-w loop-less
+    loop-again same-length returns)

@@ -72,19 +72,5 @@ returns c =
 pub look-worker-spec : {M : Type 1} → statement M
 look-worker-spec =
     tie.close
-    (tie.spec
-    Inv-loop
-    μ-loop
-    start-in-requires
-    mul-x
-    slice-read-x
-    loop-holds
-    resend-requires
-    sub-x
-    loop-less
-    loop-again
-    mul-looked
-    slice-write-looked
-    same-length
-    same-length-2
-    returns)
+    (tie.spec Inv-loop μ-loop start-in-requires mul-x slice-read-x loop-holds resend-requires sub-x loop-less loop-again mul-looked slice-write-looked same-length
+    same-length-2 returns)

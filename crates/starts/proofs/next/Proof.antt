@@ -54,15 +54,4 @@ returns-2 c = first-none _ _ _ (omega arith) (c .before .loop .inv .1)
 pub next-spec : {M : Type 1} → statement M
 next-spec =
     tie.close
-    (tie.spec
-    Inv-loop
-    μ-loop
-    loop-holds
-    start-in-requires
-    mul-if1
-    shared-slice-read-if1
-    returns
-    add-w
-    loop-less
-    loop-again
-    returns-2)
+    (tie.spec Inv-loop μ-loop loop-holds start-in-requires mul-if1 shared-slice-read-if1 returns add-w loop-less loop-again returns-2)

@@ -41,13 +41,4 @@ returns-2 c = let z : c .before .loop .c ≡ 0 = omega arith in sym (c .before .
 pub number-below-spec : {M : Type 1} → statement M
 number-below-spec =
     tie.close
-    (tie.spec
-    Inv-loop
-    μ-loop
-    loop-holds
-    may-start-below-requires
-    returns
-    sub-c
-    loop-less
-    loop-again
-    returns-2)
+    (tie.spec Inv-loop μ-loop loop-holds may-start-below-requires returns sub-c loop-less loop-again returns-2)

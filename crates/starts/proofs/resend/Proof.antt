@@ -58,15 +58,5 @@ returns-2 c =
 pub resend-spec : {M : Type 1} → statement M
 resend-spec =
     tie.close
-    (tie.spec
-    event-at-requires
-    (λ c. search needs)
-    start-in-requires
-    (λ c κs. search needs)
-    (λ c. search needs)
-    returns
-    number-in-requires
-    (λ c κs. search needs)
-    place-requires
-    (λ c. search needs)
-    returns-2)
+    (tie.spec event-at-requires (λ c. search needs) start-in-requires (λ c κs. search needs) (λ c. search needs) returns number-in-requires (λ c κs. search needs)
+    place-requires (λ c. search needs) returns-2)

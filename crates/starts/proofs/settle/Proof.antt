@@ -78,16 +78,4 @@ returns c =
 pub settle-spec : {M : Type 1} → statement M
 settle-spec =
     tie.close
-    (tie.spec
-    Inv-loop
-    μ-loop
-    worker-count-requires
-    next-requires
-    loop-holds
-    look-worker-requires
-    next-requires-2
-    loop-less
-    loop-again
-    same-length
-    same-length-2
-    returns)
+    (tie.spec Inv-loop μ-loop worker-count-requires next-requires loop-holds look-worker-requires next-requires-2 loop-less loop-again same-length same-length-2 returns)

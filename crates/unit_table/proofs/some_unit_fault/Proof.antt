@@ -40,13 +40,4 @@ returns-2 c = sought-end (c .before .loop .inv) (c .loop-test .left) refl
 pub some-unit-fault-spec : {M : Type 1} → statement M
 some-unit-fault-spec =
     tie.close
-    (tie.spec
-    Inv-loop
-    μ-loop
-    loop-holds
-    unit-fault-requires
-    returns
-    add-k
-    loop-less
-    loop-again
-    returns-2)
+    (tie.spec Inv-loop μ-loop loop-holds unit-fault-requires returns add-k loop-less loop-again returns-2)

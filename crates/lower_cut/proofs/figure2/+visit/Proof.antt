@@ -220,12 +220,24 @@ module _ (t : ℕ) where
   visit-stale-after-requires c κs = let visits = ap (λ (t : Found). t .visits) (c .before .before .before .before .visit .ensures .0) in rw visits (visitAt-counts _ _ _ _)
 
   visit-loop-less-4 : At visit-lts.Need-loop-less-4
-  visit-loop-less-4 c = omega (arith, going-inside (c .before .before .before .before .before .before .before .before .before .before .before .before .before .loop .inv) (c .before .before .before .before .before .before .before .before .before .before .before .before .loop-test .taken) (c .before .before .before .before .before .before .before .before .before .before .before .if2 .left) (c .before .before .before .before .before .before .before .before .before .before .if3 .left), going-low (c .before .before .before .before .before .before .before .before .before .before .before .before .before .loop .inv) (c .before .before .before .before .before .before .before .before .before .before .before .before .loop-test .taken) (c .before .before .before .before .before .before .before .before .before .before .before .if2 .left))
+  visit-loop-less-4 c =
+      let at-if3 = c .before .before .before .before .before .before .before .before .before .before in
+      let at-if2 = at-if3 .before in
+      let at-test = at-if2 .before in
+      let inv = at-test .before .loop .inv in
+      let test = at-test .loop-test .taken in
+      let turn = at-if2 .if2 .left in
+      omega (arith, going-inside inv test turn (at-if3 .if3 .left), going-low inv test turn)
 
   visit-loop-again-4 : At visit-lts.Need-loop-again-4
   visit-loop-again-4 c =
       let visit = c .before .before .before .before .before .visit in
-      going-turned (c .before .before .before .before .before .before .before .before .before .before .before .before .before .loop .inv) (c .before .before .before .before .before .before .before .before .before .before .before .before .loop-test .taken) (c .before .before .before .before .before .before .before .before .before .before .before .if2 .left) (c .before .before .before .before .before .before .before .before .before .before .if3 .left) (c .before .before .before .before .before .before .before .before .if4 .left) (visit .ensures .0) (visit .kept .1 .1 .1 .1 .1 .0) (visit .ensures .1) (c .stale-after .ensures)
+      let at-if4 = c .before .before .before .before .before .before .before .before in
+      let at-if3 = at-if4 .before .before in
+      let at-if2 = at-if3 .before in
+      let at-test = at-if2 .before in
+      going-turned (at-test .before .loop .inv) (at-test .loop-test .taken) (at-if2 .if2 .left) (at-if3 .if3 .left) (at-if4 .if4 .left) (visit .ensures .0)
+      (visit .kept .1 .1 .1 .1 .1 .0) (visit .ensures .1) (c .stale-after .ensures)
 
   visit-same-length-2 : At visit-lts.Need-same-length-2
   visit-same-length-2 c = turning-long (c .before .loop .inv .turning)

@@ -100,33 +100,6 @@ returns-3 c = let inv = c .before .before .loop .inv in rw (inv .0) (copying-sto
 pub next-turns-spec : {M : Type 1} → statement M
 next-turns-spec =
     tie.close
-    (tie.spec
-    Inv-loop
-    μ-loop
-    loop-holds
-    mul-d
-    shared-slice-read-d
-    mul-if1
-    shared-slice-read-if1
-    add-w
-    loop-less
-    loop-again
-    same-length
-    same-length-2
-    returns
-    cast-workers
-    slice-write-workers
-    mul-events
-    slice-write-events
-    add-j
-    add-w-2
-    loop-less-2
-    loop-again-2
-    same-length-3
-    same-length-4
-    returns-2
-    cast-workers-2
-    slice-write-workers-2
-    same-length-5
-    same-length-6
-    returns-3)
+    (tie.spec Inv-loop μ-loop loop-holds mul-d shared-slice-read-d mul-if1 shared-slice-read-if1 add-w loop-less loop-again same-length same-length-2 returns cast-workers
+    slice-write-workers mul-events slice-write-events add-j add-w-2 loop-less-2 loop-again-2 same-length-3 same-length-4 returns-2 cast-workers-2 slice-write-workers-2
+    same-length-5 same-length-6 returns-3)

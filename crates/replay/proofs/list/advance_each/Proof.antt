@@ -66,19 +66,5 @@ returns c =
 pub advance-each-spec : {M : Type 1} → statement M
 advance-each-spec =
     tie.close
-    (tie.spec
-    Inv-loop
-    μ-loop
-    loop-holds
-    mul-advance
-    shared-slice-read-advance
-    cast-advance
-    advance-requires
-    mul-answers
-    slice-write-answers
-    add-j
-    loop-less
-    loop-again
-    same-length
-    same-length-2
-    returns)
+    (tie.spec Inv-loop μ-loop loop-holds mul-advance shared-slice-read-advance cast-advance advance-requires mul-answers slice-write-answers add-j loop-less loop-again
+    same-length same-length-2 returns)
