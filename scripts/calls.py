@@ -1,13 +1,17 @@
 """The calls that the program `cases` makes on a case, and how its standard input lists them.
 
 The program has an array of SIZE numbers: how many words, or bytes, are lent of each kind, the words that a call reads, and the
-words that it writes over. Each is FILLER at first. Standard input has for each case the number of its entries and then the
-entries, each a place and a value, in numbers of 4 bytes with the lowest first. An entry puts the value at the place. At a place
-below ENTRIES it is an action besides:
+words that it writes over. Each is FILLER at first, and so is each of SCRATCH_ROOM words of scratch before a call. Standard input
+has for each case the number of its entries and then the entries, each a place and a value, in numbers of 4 bytes with the lowest
+first. An entry puts the value at the place. At a place below ENTRIES it is an action besides:
 
-    0 to 12    the call of this number in NAMES, on the numbers as they are. The value is its worker, or the identifier of a
-               covering set
-    13         a new line of the output. The value is its number
+    below CALLS    the call of this number in NAMES, on the numbers as they are. The value is its worker, or the identifier of a
+                   covering set
+    CALLS          a new line of the output. The value is its number
+
+A new call has the next number of NAMES, and the count of a new kind of words one of the free places before READ_AT, so that no
+other moves. FILE and NAME are the places of the counts for the bytes of a file and of a name, and from FILE_AT and NAME_AT on is
+room for these, 4 bytes to a word; no call reads them yet.
 
 The lines of a case:
 
@@ -41,24 +45,36 @@ import reference
 
 MAX_WORKERS = reference.MAX_WORKERS
 
+# The numbers of the calls are below this one; NAMES has those in use, in their order.
+CALLS = 24
 NAMES = (
     "log_refusal", "vector", "upper_line", "covers", "cut_test", "step", "steps", "lower_cut", "plan", "restore", "pack",
     "load_table", "built_in")
-LINE = len(NAMES)
+LINE = CALLS
 ENTRIES = LINE + 1
 
 # The places of the counts: the words that a call reads, and those that it writes, which are a line, a cut, a plan, the answer of
 # a test, the positions of a step or the built-in table; scratch; the positions and answers of a list of steps; totals; bytes; the
-# list; the unit table.
-READ, WRITTEN, SCRATCH, POSITIONS, ANSWERS, TOTALS, BYTES, LIST, TABLE = range(ENTRIES, ENTRIES + 9)
+# list; the unit table; a file; a name.
+READ, WRITTEN, SCRATCH, POSITIONS, ANSWERS, TOTALS, BYTES, LIST, TABLE, FILE, NAME = range(32, 43)
+
+# How many numbers the longest list has, one that is lent with a plan, and one that is lent with a plan and each table.
+LONGEST = 8 * (MAX_WORKERS + 2)
+REPLAYED = 32
+REPLAYED_BY_TABLE = 3
 
 # The first places of the words.
-READ_AT = TABLE + 1
+READ_AT = 64
 LIST_AT = READ_AT + 3 * MAX_WORKERS + 8
-TABLE_AT = LIST_AT + 8 * (MAX_WORKERS + 2)
-WRITTEN_AT = TABLE_AT + 32
+TABLE_AT = LIST_AT + 2050
+FILE_AT = TABLE_AT + 32
+NAME_AT = FILE_AT + 512
+WRITTEN_AT = NAME_AT + 16
 ANSWERS_AT = WRITTEN_AT + MAX_WORKERS + 8
-SIZE = WRITTEN_AT + MAX_WORKERS ** 2 + 8  # room for n × n words of scratch, and 8 more
+SIZE = ANSWERS_AT + REPLAYED * (MAX_WORKERS + 1) + 8
+
+# The words of scratch that there are to lend.
+SCRATCH_ROOM = MAX_WORKERS ** 2 + 8
 
 # What each word to write over holds: a number over every event count.
 FILLER = 900000
@@ -110,11 +126,6 @@ PATTERNS = range(4)
 BY_TABLE = LISTS + len(PATTERNS)
 LOST = BY_TABLE + 1
 BY_SCRATCH = LOST + MAX_WORKERS
-
-# The numbers of the longest list, of one that is lent with a plan, and of one that is lent with a plan and each table.
-LONGEST = 8 * (MAX_WORKERS + 2)
-REPLAYED = 32
-REPLAYED_BY_TABLE = 3
 
 NO_WORKER = 4294967295
 

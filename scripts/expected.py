@@ -15,8 +15,8 @@ more. A byte not written is a5.
 
 import reference
 from calls import (
-    ALL_TOTALS, ANSWERS, ANSWERS_AT, BYTES, FILLER, LINE, LIST, LIST_AT, NAMES, POSITIONS, READ, READ_AT, ROOM, SCRATCH, SIZE,
-    TABLE, TABLE_AT, TOTALS, WRITTEN, WRITTEN_AT, case_of, entries_of)
+    ALL_TOTALS, ANSWERS, ANSWERS_AT, BYTES, FILLER, LINE, LIST, LIST_AT, NAMES, POSITIONS, READ, READ_AT, ROOM, SCRATCH,
+    SCRATCH_ROOM, SIZE, TABLE, TABLE_AT, TOTALS, WRITTEN, WRITTEN_AT, case_of, entries_of)
 
 UNTOUCHED = 999
 
@@ -51,6 +51,10 @@ class Made:
     def part_of_totals(self):
         """The totals that are lent."""
         return [UNTOUCHED] * min(self.numbers[TOTALS], ALL_TOTALS)
+
+    def scratch(self):
+        """How many words of scratch are lent."""
+        return min(self.numbers[SCRATCH], SCRATCH_ROOM)
 
     def log_refusal(self, _):
         return reference.refusal(self.log), ""
@@ -97,7 +101,7 @@ class Made:
 
     def search(self, call, *asked):
         words = self.part(WRITTEN, WRITTEN_AT)
-        number, *totals, after = call(self.log, *asked, words, self.numbers[SCRATCH])
+        number, *totals, after = call(self.log, *asked, words, self.scratch())
         return number, changes("w", words, after) + totals_text([] if number else totals)
 
     def lower_cut(self, worker):
@@ -110,7 +114,7 @@ class Made:
         words, positions, answers = (
             self.part(WRITTEN, WRITTEN_AT), self.part(POSITIONS, WRITTEN_AT), self.part(ANSWERS, ANSWERS_AT))
         number, totals, plan, after, left = reference.restore_and_replay_call(
-            self.log, worker, self.event, self.part(LIST, LIST_AT), self.part(TABLE, TABLE_AT), words, self.numbers[SCRATCH],
+            self.log, worker, self.event, self.part(LIST, LIST_AT), self.part(TABLE, TABLE_AT), words, self.scratch(),
             positions, answers, self.part_of_totals())
         replayed = changes("p", positions, after) + changes("a", answers, left)
         return number, replayed + changes("w", words, plan) + totals_text(totals)

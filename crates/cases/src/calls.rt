@@ -2,13 +2,17 @@
 
 use super::numbers;
 use super::numbers::ANSWERS_AT;
+use super::numbers::FILLER;
+use super::numbers::LINE;
 use super::numbers::LIST_AT;
 use super::numbers::READ_AT;
 use super::numbers::ROOM;
+use super::numbers::SCRATCH_ROOM;
 use super::numbers::SIZE;
 use super::numbers::TABLE_AT;
 use super::numbers::WRITTEN_AT;
 use super::numbers::part;
+use super::numbers::wide;
 use super::text;
 use super::text::GUARD;
 use super::text::PAST;
@@ -16,12 +20,34 @@ use super::text::TOTALS;
 use super::text::UNTOUCHED;
 use super::text::print_changes;
 
-// A new line has this number, and the calls have those below it.
-const LINE: usize = 13;
+// The numbers of the calls. Those from 13 to 23 are free.
+const LOG_REFUSAL: usize = 0;
 
-pub const ENTRIES: usize = LINE + 1;
+const VECTOR: usize = 1;
 
-// The calls that write words of one kind. `value` is the worker, or the identifier of a covering set.
+const UPPER_LINE: usize = 2;
+
+const COVERS: usize = 3;
+
+const CUT_TEST: usize = 4;
+
+const STEP: usize = 5;
+
+const STEPS: usize = 6;
+
+const LOWER_CUT: usize = 7;
+
+const PLAN: usize = 8;
+
+const RESTORE: usize = 9;
+
+const PACK: usize = 10;
+
+const LOAD_TABLE: usize = 11;
+
+const BUILT_IN: usize = 12;
+
+// The calls that write words of one kind; a number that is free makes none. `value` is the worker, or the identifier of a covering set.
 fn run_one(log: &[u8], event: u32, given: [u32; SIZE], call: usize, value: u32) -> u32 {
     let mut read = given;
     let mut loaded = given;
@@ -30,14 +56,15 @@ fn run_one(log: &[u8], event: u32, given: [u32; SIZE], call: usize, value: u32) 
     let table = part(&mut loaded, numbers::TABLE, TABLE_AT);
     let lent = part(&mut written, numbers::WRITTEN, WRITTEN_AT);
     let number = match call {
-        0 => planner::log_refusal(log),
-        1 => planner::vector(log, value, event, lent),
-        2 => planner::upper_line(log, value, event, lent),
-        3 => planner::covers(log, value, lent),
-        4 => planner::cut_test(log, words, lent),
-        11 => planner::load_table(table),
-        12 => planner::built_in_table(lent),
-        _ => planner::step(log, words, lent, value),
+        LOG_REFUSAL => planner::log_refusal(log),
+        VECTOR => planner::vector(log, value, event, lent),
+        UPPER_LINE => planner::upper_line(log, value, event, lent),
+        COVERS => planner::covers(log, value, lent),
+        CUT_TEST => planner::cut_test(log, words, lent),
+        STEP => planner::step(log, words, lent, value),
+        LOAD_TABLE => planner::load_table(table),
+        BUILT_IN => planner::built_in_table(lent),
+        _ => 0,
     };
     print_changes(b'w', WRITTEN_AT, given, written);
     number
@@ -64,12 +91,12 @@ fn run_steps(log: &[u8], given: [u32; SIZE]) -> u32 {
 }
 
 // Prints the scratch that a search changes where it is refused, and else the words behind it, since the scratch itself is then free.
-fn print_scratch(number: u32, given: [u32; SIZE], scratch: [u32; SIZE]) {
+fn print_scratch(number: u32, given: [u32; SIZE], scratch: &[u32; SCRATCH_ROOM]) {
     if number != 0 {
-        print_changes(b's', WRITTEN_AT, given, scratch);
+        text::print_scratch_from(b's', 0, scratch);
         return;
     }
-    print_changes(b'g', numbers::behind_scratch(given), given, scratch);
+    text::print_scratch_from(b'g', wide(given[numbers::SCRATCH]), scratch);
 }
 
 // Prints what a search leaves.
@@ -77,7 +104,7 @@ fn print_search(
     number: u32,
     given: [u32; SIZE],
     written: [u32; SIZE],
-    scratch: [u32; SIZE],
+    scratch: &[u32; SCRATCH_ROOM],
     totals: &[u64; TOTALS],
 ) {
     print_changes(b'w', WRITTEN_AT, given, written);
@@ -89,17 +116,17 @@ fn print_search(
 fn run_search(log: &[u8], event: u32, given: [u32; SIZE], is_plan: bool, worker: u32) -> u32 {
     let mut loaded = given;
     let mut written = given;
-    let mut scratch = given;
+    let mut scratch = [FILLER; SCRATCH_ROOM];
     let mut totals = [UNTOUCHED; TOTALS];
     let table = part(&mut loaded, numbers::TABLE, TABLE_AT);
     let lent = part(&mut written, numbers::WRITTEN, WRITTEN_AT);
-    let room = part(&mut scratch, numbers::SCRATCH, WRITTEN_AT);
+    let room = numbers::part_of_scratch(&mut scratch, given);
     let number = if is_plan {
         planner::plan(log, worker, event, table, lent, room, &mut totals)
     } else {
         planner::lower_cut(log, worker, event, lent, room, &mut totals)
     };
-    print_search(number, given, written, scratch, &totals);
+    print_search(number, given, written, &scratch, &totals);
     number
 }
 
@@ -108,7 +135,7 @@ fn run_restore(log: &[u8], event: u32, given: [u32; SIZE], worker: u32) -> u32 {
     let mut list = given;
     let mut loaded = given;
     let mut written = given;
-    let mut scratch = given;
+    let mut scratch = [FILLER; SCRATCH_ROOM];
     let mut positions = given;
     let mut answers = given;
     let mut totals = [UNTOUCHED; TOTALS];
@@ -121,14 +148,14 @@ fn run_restore(log: &[u8], event: u32, given: [u32; SIZE], worker: u32) -> u32 {
         workers,
         table,
         part(&mut written, numbers::WRITTEN, WRITTEN_AT),
-        part(&mut scratch, numbers::SCRATCH, WRITTEN_AT),
+        numbers::part_of_scratch(&mut scratch, given),
         part(&mut positions, numbers::POSITIONS, WRITTEN_AT),
         part(&mut answers, numbers::ANSWERS, ANSWERS_AT),
         numbers::part_of_totals(&mut totals, given),
     );
     print_changes(b'p', WRITTEN_AT, given, positions);
     print_changes(b'a', ANSWERS_AT, given, answers);
-    print_search(number, given, written, scratch, &totals);
+    print_search(number, given, written, &scratch, &totals);
     number
 }
 
@@ -160,11 +187,11 @@ pub(crate) fn run_entry(
     if call < LINE {
         text::print_name(call);
         let number = match call {
-            6 => run_steps(log, given),
-            7 => run_search(log, event, given, false, value),
-            8 => run_search(log, event, given, true, value),
-            9 => run_restore(log, event, given, value),
-            10 => run_pack(log, given),
+            STEPS => run_steps(log, given),
+            LOWER_CUT => run_search(log, event, given, false, value),
+            PLAN => run_search(log, event, given, true, value),
+            RESTORE => run_restore(log, event, given, value),
+            PACK => run_pack(log, given),
             _ => run_one(log, event, given, call, value),
         };
         text::print_byte(b' ');

@@ -26,7 +26,7 @@ fn run_entries(name: &[u8], log: &[u8], event: u32) {
         let at = read_number(STDIN_FILENO) as usize % SIZE;
         let value = read_number(STDIN_FILENO);
         given[at] = value;
-        if at < calls::ENTRIES {
+        if at < numbers::ENTRIES {
             calls::run_entry(name, log, event, given, at, value);
         }
         k += 1;

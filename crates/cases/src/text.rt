@@ -1,5 +1,7 @@
 // What is printed.
 
+use super::numbers::CALLS;
+use super::numbers::FILLER;
 use super::numbers::SIZE;
 use libc::STDOUT_FILENO;
 ghost use Prim.Native.Nat.{_<_};
@@ -14,9 +16,9 @@ pub const GUARD: u8 = 165;
 
 pub const PAST: usize = 8;
 
-// The names of the calls, in WIDTH bytes each; the number of a call is its place among them.
-const NAMES: [u8; 13 * WIDTH] =
-    *b" log_refusal vector      upper_line  covers      cut_test    step        steps       lower_cut   plan        restore     pack        load_table  built_in   ";
+// The names of the calls, in WIDTH bytes each; the number of a call is its place among them. A number that is free has blanks.
+const NAMES: [u8; CALLS * WIDTH] =
+    *b" log_refusal vector      upper_line  covers      cut_test    step        steps       lower_cut   plan        restore     pack        load_table  built_in                                                                                                                                       ";
 
 const WIDTH: usize = 12;
 
@@ -28,7 +30,7 @@ pub(crate) fn print_byte(byte: u8) {
 
 // Prints the name of a call.
 pub(crate) fn print_name(call: usize)
-    requires { ⌜ call < 13 ⌝ }
+    requires { ⌜ call < 24 ⌝ }
 {
     let from = WIDTH * call;
     io::write_all(STDOUT_FILENO, &NAMES[from..from + WIDTH]);
@@ -40,15 +42,33 @@ pub(crate) fn print_number(mark: u8, number: u32) {
     io::print_decimal(STDOUT_FILENO, number as u64);
 }
 
+// Prints a word that is changed, with its kind and its number.
+fn print_word(mark: u8, k: usize, word: u32) {
+    print_byte(b' ');
+    print_byte(mark);
+    io::print_decimal(STDOUT_FILENO, k as u64);
+    print_number(b':', word);
+}
+
 // Prints each word from place `from` on that is not as it was given, with its number from there.
 pub(crate) fn print_changes(mark: u8, from: usize, given: [u32; SIZE], left: [u32; SIZE]) {
     let mut k = from;
     while k < SIZE {
         let word = left[k];
         if word != given[k] {
-            print_byte(b' ');
-            print_number(mark, (k - from) as u32);
-            print_number(b':', word);
+            print_word(mark, k - from, word);
+        }
+        k += 1;
+    }
+}
+
+// Prints each word of the scratch from place `from` on that is not as before the call, with its number from there.
+pub(crate) fn print_scratch_from(mark: u8, from: usize, scratch: &[u32]) {
+    let mut k = from;
+    while k < scratch.len() {
+        let word = scratch[k];
+        if word != FILLER {
+            print_word(mark, k - from, word);
         }
         k += 1;
     }

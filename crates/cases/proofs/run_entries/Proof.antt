@@ -1,4 +1,5 @@
--- `cases::run_entries` meets its contract. Assumes nothing.
+-- `cases::run_entries` meets its contract: it is safe, since a place is taken modulo the size of the array, and it ends, since each turn
+-- leaves one entry fewer. Assumes nothing.
 use Prim.Native.Nat.{_-_}
 use native.Mathlib.Omega.{arith}
 use Rattle.cases.proofs.run_entries.Statement.{statement}

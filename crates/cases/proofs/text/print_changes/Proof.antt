@@ -1,4 +1,5 @@
--- `cases::text::print_changes` meets its contract. Assumes nothing.
+-- `cases::text::print_changes` meets its contract: it is safe, since k is at least `from` and below the size of the array in each turn, and
+-- it ends, since each turn leaves one word fewer. Assumes nothing.
 use Prim.Native.Nat.{_+_, _*_, _-_, _≤_}
 use native.Mathlib.Omega.{arith}
 use Rattle.log.specs.Limits.{maxWorkers}
@@ -9,7 +10,7 @@ abbrev Inv-loop : tie.InvT-loop
 Inv-loop mark from given left k₀ k = from ≤ k
 
 abbrev μ-loop : tie.MeasureT-loop
-μ-loop mark from given left k₀ k = maxWorkers * maxWorkers + 11 * maxWorkers + 87 - k
+μ-loop mark from given left k₀ k = 36 * maxWorkers + 2730 - k
 
 pub print-changes-spec : {M : Type 1} → statement M
-print-changes-spec = tie.close (tie.spec Inv-loop μ-loop (λ c. omega arith) (λ c. omega arith) (λ c. omega arith) (λ c. omega arith) (λ c. omega arith) (λ c κs. tt) (λ c. omega arith) (λ c. omega arith) (λ c κs. tt) (λ c κs. tt) (λ c. omega arith) (λ c. omega arith) (λ c. omega arith) (λ c. tt))
+print-changes-spec = tie.close (tie.spec Inv-loop μ-loop (λ c. omega arith) (λ c. omega arith) (λ c. omega arith) (λ c. omega arith) (λ c. omega arith) (λ c. omega arith) (λ c κs. tt) (λ c. omega arith) (λ c. omega arith) (λ c. omega arith) (λ c. tt))

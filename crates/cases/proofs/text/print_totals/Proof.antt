@@ -1,4 +1,5 @@
--- `cases::text::print_totals` meets its contract. Assumes nothing.
+-- `cases::text::print_totals` meets its contract: it is safe, since k is below the number of totals in each turn, and it ends, since each
+-- turn leaves one total fewer. Assumes nothing.
 use Prim.Native.Nat.{_-_}
 use native.Mathlib.Omega.{arith}
 use Rattle.cases.proofs.text.print_totals.Statement.{statement}
