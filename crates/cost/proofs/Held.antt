@@ -37,7 +37,7 @@ pub cuts-are : (log : Workers) (words cut : List ℕ) → length cut ≡ workerC
 unfolding cutsIn
 cuts-are log words cut long same = sym (tabulate-list (cutIn words) (workerCount log) 0 cut long (λ w h. sym (same w h)))
 
--- the same of the starts
+-- words whose second word of each worker is the start's give the starts
 pub starts-are : (log : Workers) (words starts : List ℕ) → length starts ≡ workerCount log → ((w : ℕ) → w < workerCount log → startIn words w ≡ at starts w)
     → startsIn log words ≡ starts
 unfolding startsIn

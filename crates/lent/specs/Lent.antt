@@ -27,7 +27,7 @@ onto new lent = new ++ drop (length new) lent
 unfoldable pub unlessRefused : ℕ → List ℕ → List ℕ → List ℕ
 unlessRefused refusal new lent = cond (eqb refusal 0) (onto new lent) lent
 
--- the same of scratch, whose "content after a success is free"
+-- a refusal changes no word of scratch either; its "content after a success is free"
 abbrev pub KeptIfRefused : ℕ → List ℕ → List ℕ → Type 0
 KeptIfRefused refusal lent left = (refusal ≡ 0 → ⊥) → left ≡ lent
 

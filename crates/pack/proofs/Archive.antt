@@ -279,7 +279,7 @@ archived s p =
           (λ e. agree s t p q (sym (same-log s p) ∙ ap logOf e ∙ same-log t q), λ a. ap packed (agreed-log s t p q a));
     }
 
--- the same of the bytes that a call leaves in front of the others
+-- the bytes that a call leaves in front of the others are the packed log
 pub file-archived : (s : List ℕ) → Packable s → (out : List ℕ) (number : ℕ) → number ≡ packedLength (workersOf s)
     → Archived s (take number (unlessRefused 0 (packed (logOf s)) out))
 unfolding unlessRefused

@@ -105,7 +105,7 @@ fn has_mark(form: u32, word: u32) -> bool
     false
 }
 
-// The identifier that such a word has.
+// The identifier that an identifier word of a log of this form has.
 fn without_mark(form: u32, word: u32) -> u32
     ensures answer { λ r. ⌜ r ≡ withoutMark form word ⌝ }
 {

@@ -89,7 +89,7 @@ step-ok log words positions w found none =
     let second = or-else-zero (workerRefusal (log .workers) w) (stateRefusal (log .workers) words positions 0) (first .1) in
     (first .0, state-ok (log .workers) words positions 0 refl (second .1) .0)
 
--- the same of a list of steps
+-- a list of steps that is not refused by what it is lent
 pub steps-ok : (log : Given) (words positions : List ℕ) (others : ℕ) {r : ℕ} → r ≡ stepsRefusal log words positions others → r ≡ 0
     → (log .refusal ≡ 0) × IsState (log .workers) words positions × (others ≡ 0)
 unfolding stepsRefusal

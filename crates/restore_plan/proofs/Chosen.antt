@@ -71,7 +71,7 @@ identifier-last log w x (k, may, index) =
       },
     )
 
--- the same of the plan's checkpoint
+-- the checkpoint of the plan is the last one with its index that may be chosen
 pub plan-last : (log : Workers) (starts : List ℕ) (w : ℕ) → IndexOffered log w (at starts w) → (c : ℕ) × IsLastAt log w (planAt log starts w) c
 unfolding planAt
 plan-last log starts w = identifier-last log w (at starts w)
