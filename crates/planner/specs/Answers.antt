@@ -1,5 +1,5 @@
--- What every call of document 01 returns and leaves, over what it is given of a log: the definitions that the contracts of src/lib.rt cite,
--- side by side, so that one equation between two logs moves all of them.
+-- What every call of document 01 on a log returns and leaves, over what it is given of the log: the definitions of the calls side by side.
+-- The contracts of src/lib.rt cite them from here, so that one equation between two logs moves what all of them say.
 -- Assumes nothing.
 use mathlib.Core.Path.{_≡_}
 use mathlib.Core.List.{List}
@@ -15,9 +15,8 @@ use Rattle.covering.specs.Calls.{coversCall}
 use Rattle.restore_plan.specs.Calls.{planCall}
 use Rattle.replay_machine.specs.Calls.{stepCall, stepsCall, restoreCall}
 
--- of each call, what it leaves for all that it is asked and lent besides the log
+-- of each call, what it returns and leaves for all that it is asked and lent besides the log
 pub record Answers : Type 0 where
-  pub refusal : ℕ
   pub ofVector : ℕ → ℕ → List ℕ → Left
   pub ofUpperLine : ℕ → ℕ → List ℕ → Left
   pub ofLowerCut : ℕ → ℕ → List ℕ → ℕ → List ℕ → Left
@@ -31,7 +30,6 @@ pub record Answers : Type 0 where
 abbrev pub answersTo : Given → Answers
 answersTo log =
     record {
-      refusal = log .refusal;
       ofVector = vectorCall log;
       ofUpperLine = upperLineCall log;
       ofLowerCut = lowerCutCall log;

@@ -15,20 +15,17 @@ ghost use Rattle.repeats.specs.Repeats.{ReceivedOnce, ReceivedTwice};
 ghost use Rattle.accept.specs.Refusal.{logRefusal, given};
 ghost use Rattle.pack.specs.Calls.{packCall};
 ghost use Rattle.pack.specs.Archive.{Archived};
-ghost use Rattle.causality.specs.Calls.{vectorCall, cutTestCall, TellsConsistent};
-ghost use Rattle.lower_cut.specs.Calls.{lowerCutCall};
-ghost use Rattle.upper_line.specs.Calls.{upperLineCall};
+ghost use Rattle.causality.specs.Calls.{TellsConsistent};
 ghost use Rattle.covering.specs.Covering.{CoversWhenStartable};
 ghost use Rattle.covering.specs.Withdrawn.{CoversNoneWithdrawn};
-ghost use Rattle.covering.specs.Calls.{coversCall};
 ghost use Rattle.unit_table.specs.Table.{tableWords, tableOf, builtInWords, tableRefusal, builtInCall};
-ghost use Rattle.restore_plan.specs.Calls.{planTotalWords, planCall};
+ghost use Rattle.restore_plan.specs.Calls.{planTotalWords};
 ghost use Rattle.restore_plan.specs.Floor.{Floor};
 ghost use Rattle.restore_plan.specs.Shown.{Shown};
 ghost use Rattle.restore_plan.specs.AsBefore.{AsBefore};
-ghost use Rattle.replay_machine.specs.Calls.{othersRefusal, stepCall, stepsCall, restoreCall};
+ghost use Rattle.replay_machine.specs.Calls.{othersRefusal};
 ghost use Rattle.replay_machine.specs.Demand3.{Demand3};
-ghost use Rattle.planner.specs.Answers.{SameAnswers, AnsweredAlike};
+ghost use Rattle.planner.specs.Answers.{answersTo, SameAnswers, AnsweredAlike};
 
 // 0 for an accepted log, else the number that refuses it.
 #[no_mangle]
@@ -62,7 +59,7 @@ pub extern "C" fn pack(log: &[u8], out: &mut [u8], written: &mut [u64]) -> u32
 // The dependency vector of an event.
 #[no_mangle]
 pub extern "C" fn vector(log: &[u8], worker: u32, event: u32, words: &mut [u32]) -> u32
-    ensures left { λ r. ⌜ left r (now (words .exit) ∷ []) ≡ vectorCall (given (now (log .entry))) worker event (now (words .entry)) ⌝ }
+    ensures left { λ r. ⌜ left r (now (words .exit) ∷ []) ≡ answersTo (given (now (log .entry))) .ofVector worker event (now (words .entry)) ⌝ }
 {
     causality::vector(log, worker, event, words)
 }
@@ -70,7 +67,7 @@ pub extern "C" fn vector(log: &[u8], worker: u32, event: u32, words: &mut [u32])
 // The upper line of a breakpoint event.
 #[no_mangle]
 pub extern "C" fn upper_line(log: &[u8], worker: u32, event: u32, words: &mut [u32]) -> u32
-    ensures left { λ r. ⌜ left r (now (words .exit) ∷ []) ≡ upperLineCall (given (now (log .entry))) worker event (now (words .entry)) ⌝ }
+    ensures left { λ r. ⌜ left r (now (words .exit) ∷ []) ≡ answersTo (given (now (log .entry))) .ofUpperLine worker event (now (words .entry)) ⌝ }
 {
     upper_line::upper_line(log, worker, event, words)
 }
@@ -86,7 +83,7 @@ pub extern "C" fn lower_cut(
     totals: &mut [u64],
 ) -> u32
     ensures left { λ r. ⌜ left r (now (words .exit) ∷ now (totals .exit) ∷ [])
-        ≡ lowerCutCall (given (now (log .entry))) worker event (now (words .entry)) (length (now (scratch .entry))) (now (totals .entry)) ⌝ }
+        ≡ answersTo (given (now (log .entry))) .ofLowerCut worker event (now (words .entry)) (length (now (scratch .entry))) (now (totals .entry)) ⌝ }
     ensures kept { λ r. ⌜ KeptIfRefused r (now (scratch .entry)) (now (scratch .exit)) ⌝ }
 {
     let others = lent::words_refusal(totals.len(), lower_cut::CUT_TOTALS);
@@ -132,7 +129,7 @@ pub extern "C" fn plan(
     scratch: &mut [u32],
     totals: &mut [u64],
 ) -> u32
-    ensures left { λ r. ⌜ left r (now (words .exit) ∷ now (totals .exit) ∷ []) ≡ planCall (given (now (log .entry))) worker event (now (table .entry))
+    ensures left { λ r. ⌜ left r (now (words .exit) ∷ now (totals .exit) ∷ []) ≡ answersTo (given (now (log .entry))) .ofPlan worker event (now (table .entry))
         (now (words .entry)) (length (now (scratch .entry))) (now (totals .entry)) ⌝ }
     ensures kept { λ r. ⌜ KeptIfRefused r (now (scratch .entry)) (now (scratch .exit)) ⌝ }
     ensures floor { λ r. ⌜ (r ≡ 0 → Floor (workersOf (now (log .entry))) worker event (take (3 * workerCount (workersOf (now (log .entry)))) (now (words .exit)))) ⌝ }
@@ -176,7 +173,7 @@ fn write_answer(test: Test, answer: &mut [u32]) -> u32
 // The cut test; the answer is 1 where the first n words are a consistent cut, else 0.
 #[no_mangle]
 pub extern "C" fn cut_test(log: &[u8], words: &[u32], answer: &mut [u32]) -> u32
-    ensures left { λ r. ⌜ left r (now (answer .exit) ∷ []) ≡ cutTestCall (given (now (log .entry))) (now (words .entry)) (now (answer .entry)) ⌝ }
+    ensures left { λ r. ⌜ left r (now (answer .exit) ∷ []) ≡ answersTo (given (now (log .entry))) .ofCutTest (now (words .entry)) (now (answer .entry)) ⌝ }
     ensures exactly { λ r. ⌜ (r ≡ 0 → TellsConsistent (workersOf (now (log .entry))) (now (words .entry)) (at (now (answer .exit)) 0)) ⌝ }
 {
     let others = lent::words_refusal(answer.len(), 1);
@@ -186,7 +183,7 @@ pub extern "C" fn cut_test(log: &[u8], words: &[u32], answer: &mut [u32]) -> u32
 // Whether the checkpoints with this identifier are a covering set; the answer is 1 where they are, else 0.
 #[no_mangle]
 pub extern "C" fn covers(log: &[u8], identifier: u32, answer: &mut [u32]) -> u32
-    ensures left { λ r. ⌜ left r (now (answer .exit) ∷ []) ≡ coversCall (given (now (log .entry))) identifier (now (answer .entry)) ⌝ }
+    ensures left { λ r. ⌜ left r (now (answer .exit) ∷ []) ≡ answersTo (given (now (log .entry))) .ofCovers identifier (now (answer .entry)) ⌝ }
     ensures exactly { λ r. ⌜ (r ≡ 0 → CoversWhenStartable (workersOf (now (log .entry))) identifier (at (now (answer .exit)) 0)) ⌝ }
     ensures withdrawn { λ r. ⌜ (r ≡ 0 → CoversNoneWithdrawn (logOf (now (log .entry))) identifier (at (now (answer .exit)) 0)) ⌝ }
 {
@@ -197,7 +194,7 @@ pub extern "C" fn covers(log: &[u8], identifier: u32, answer: &mut [u32]) -> u32
 // One step of a worker, over the words of a plan.
 #[no_mangle]
 pub extern "C" fn step(log: &[u8], words: &[u32], positions: &mut [u32], worker: u32) -> u32
-    ensures left { λ r. ⌜ left r (now (positions .exit) ∷ []) ≡ stepCall (given (now (log .entry))) (now (words .entry)) (now (positions .entry)) worker ⌝ }
+    ensures left { λ r. ⌜ left r (now (positions .exit) ∷ []) ≡ answersTo (given (now (log .entry))) .ofStep (now (words .entry)) (now (positions .entry)) worker ⌝ }
 {
     replay::step(log, words, positions, worker)
 }
@@ -212,7 +209,7 @@ pub extern "C" fn steps(
     answers: &mut [u32],
 ) -> u32
     ensures left { λ r. ⌜ left r (now (positions .exit) ∷ now (answers .exit) ∷ [])
-        ≡ stepsCall (given (now (log .entry))) (now (words .entry)) (now (positions .entry)) (now (workers .entry)) (now (answers .entry)) ⌝ }
+        ≡ answersTo (given (now (log .entry))) .ofSteps (now (words .entry)) (now (positions .entry)) (now (workers .entry)) (now (answers .entry)) ⌝ }
 {
     replay::list::steps(log, words, positions, workers, answers)
 }
@@ -233,7 +230,7 @@ pub extern "C" fn restore_and_replay(
     totals: &mut [u64],
 ) -> u32
     ensures left { λ r. ⌜ left r (now (words .exit) ∷ now (positions .exit) ∷ now (steps .exit) ∷ now (totals .exit) ∷ [])
-        ≡ restoreCall (given (now (log .entry))) worker event (now (workers .entry)) (now (table .entry)) (now (words .entry)) (length (now (scratch .entry)))
+        ≡ answersTo (given (now (log .entry))) .ofRestore worker event (now (workers .entry)) (now (table .entry)) (now (words .entry)) (length (now (scratch .entry)))
         (now (positions .entry)) (now (steps .entry)) (now (totals .entry)) ⌝ }
     ensures kept { λ r. ⌜ KeptIfRefused r (now (scratch .entry)) (now (scratch .exit)) ⌝ }
     ensures demand3 { λ r. ⌜ (r ≡ 0 → Demand3 (workersOf (now (log .entry))) worker event (tableOf (now (table .entry))) (now (workers .entry)) (take planTotalWords (now (totals .exit)))
