@@ -1,14 +1,15 @@
--- What the tests 1 to 6 give: a log with `layoutRefusal s ≡ 0` has its header and its sections within its bytes. And what they ask.
+-- What the tests 1 to 6 give: a log with `layoutRefusal s ≡ 0` has its header and its sections within its bytes. And
+-- what refuses bytes that 1 does not refuse.
 -- Assumes nothing.
-use mathlib.Core.Path.{_≡_}
+use mathlib.Core.Path.{_≡_, _∙_}
 use mathlib.Core.Bool.{true, false, not, _||_}
 use mathlib.Core.List.{List}
 use Prim.Native.Nat.{ℕ, _+_, _*_, _<_, _≤_}
 use native.Mathlib.Omega.{arith}
-use borrow.Author.Tests.{ltb-false, le-ltb, eqb-false, eq-eqb, ne-eqb, not-false}
+use borrow.Author.Tests.{ltb-false, le-ltb, eqb-false, not-false}
 use lib.Dec.{ltb, eqb}
 use lib.ListN.{length}
-use Rattle.ranges.proofs.Any.{any-each, any-every}
+use Rattle.ranges.proofs.Any.{any-each}
 use Rattle.lent.proofs.Lent.{peel}
 use Rattle.ranges.proofs.Bools.{or-false-left, or-false-right}
 use Rattle.log.specs.Limits.{minLength, maxLength, maxWorkers, maxEvents, maxCheckpoints, maxRole}
@@ -16,7 +17,8 @@ use Rattle.records.specs.Forms.{isForm}
 use Rattle.log.specs.Layout.{formField, sizeField, lengthField, headerOf, field, eventCountField, eventOffsetField, checkpointCountField, checkpointOffsetField, roleField}
 use Rattle.records.specs.Event.{eventSize}
 use Rattle.records.specs.Checkpoint.{checkpointSize}
-use Rattle.log.specs.Header.{lengthFault, formFault, sizeFault, headerFault, limitFault, outside, sectionFault, entryFault, someEntry, entriesRefusal, layoutRefusal}
+use Rattle.log.specs.Header.{lengthFault, formFault, sizeFault, headerFault, limitFault, outside, sectionFault, entryFault, someEntry, entriesRefusal}
+use Rattle.log.specs.Header.{headerRefusal, layoutRefusal}
 
 -- the header's entry of a worker is within the limits, and its sections are within the log
 pub record Entry (s : List ℕ) (w : ℕ) : Type 0 where
@@ -81,37 +83,13 @@ module _ (s : List ℕ) where
         entry = λ w h. entry-of w (any-each (entryFault 5 s) (sizeField s) (five .0) w h) (any-each (entryFault 6 s) (sizeField s) (six .0) w h);
       }
 
-  -- ---- the other way: bytes that have all this, the length that they give, and no section that starts inside the header
-  inside : (start bytes : ℕ) → headerOf (sizeField s) ≤ start → start + bytes ≤ length s → outside s start bytes ≡ false
-  unfolding outside
-  inside start bytes from end = rw (le-ltb start (headerOf (sizeField s)) from, le-ltb (length s) (start + bytes) end)
+  -- ---- bytes that 1 does not refuse
+  module _ (long : minLength ≤ length s) (short : length s ≤ maxLength) where
+    pub length-passed : layoutRefusal s ≡ headerRefusal s
+    unfolding layoutRefusal lengthFault
+    length-passed = rw (le-ltb (length s) minLength long, le-ltb maxLength (length s) short)
 
-  module _ (read : Readable s) (given : lengthField s ≡ length s)
-      (behind : (w : ℕ) → w < sizeField s → (headerOf (sizeField s) ≤ field s w eventOffsetField) × (headerOf (sizeField s) ≤ field s w checkpointOffsetField)) where
-    within-limits : (w : ℕ) → w < sizeField s → entryFault 5 s w ≡ false
-    unfolding entryFault limitFault
-    within-limits w h =
-        let entry = read .entry w h in
-        rw (le-ltb maxEvents (field s w eventCountField) (entry .events), le-ltb maxCheckpoints (field s w checkpointCountField) (entry .checkpoints), le-ltb maxRole (field s w roleField) (entry .role))
-
-    within-log : (w : ℕ) → w < sizeField s → entryFault 6 s w ≡ false
-    unfolding entryFault sectionFault
-    within-log w h =
-        let entry = read .entry w h in
-        rw (inside (field s w eventOffsetField) (eventSize * field s w eventCountField) (behind w h .0) (entry .events-end))
-        (inside (field s w checkpointOffsetField) (checkpointSize * field s w checkpointCountField) (behind w h .1) (entry .checkpoints-end))
-
-    pub laid-out : layoutRefusal s ≡ 0
-    unfolding layoutRefusal lengthFault formFault sizeFault headerFault entriesRefusal someEntry
-    laid-out =
-        rw (
-          le-ltb (length s) minLength (read .long),
-          le-ltb maxLength (length s) (read .short),
-          read .form,
-          ne-eqb (sizeField s) 0 (λ e. let some = read .some in let no : ⊥ = omega arith in no),
-          le-ltb maxWorkers (sizeField s) (read .few),
-          eq-eqb (lengthField s) (length s) given,
-          le-ltb (length s) (headerOf (sizeField s)) (read .header),
-          any-every (entryFault 5 s) (sizeField s) within-limits,
-          any-every (entryFault 6 s) (sizeField s) within-log,
-        )
+    -- .. and whose form is none of the forms
+    pub form-refused : isForm (formField s) ≡ false → layoutRefusal s ≡ 2
+    unfolding formFault
+    form-refused none = length-passed ∙ rw none

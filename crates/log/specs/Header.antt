@@ -55,6 +55,10 @@ someEntry test s = anyBelow (entryFault test s) (sizeField s)
 unfoldable pub entriesRefusal : List ℕ → ℕ
 entriesRefusal s = cond (someEntry 5 s) 5 (cond (someEntry 6 s) 6 0)
 
+-- 2 to 6, of bytes that 1 does not refuse
+abbrev pub headerRefusal : List ℕ → ℕ
+headerRefusal s = cond (formFault s) 2 (cond (sizeFault s) 3 (cond (headerFault s) 4 (entriesRefusal s)))
+
 -- 1 to 6: 0 where the header and the sections lie as they should
 unfoldable pub layoutRefusal : List ℕ → ℕ
-layoutRefusal s = cond (lengthFault s) 1 (cond (formFault s) 2 (cond (sizeFault s) 3 (cond (headerFault s) 4 (entriesRefusal s))))
+layoutRefusal s = cond (lengthFault s) 1 (headerRefusal s)

@@ -1,37 +1,32 @@
 -- The packed log of an accepted log is the same log: `Archived`. Assumes nothing.
 use mathlib.Core.Path.{_≡_, sym, _∙_, ap}
-use mathlib.Core.Logic.{⊎-elim}
-use mathlib.Core.List.{List, _++_}
-use Prim.Native.Nat.{ℕ, zero, suc, _+_, _*_, _<_, _≤_}
+use mathlib.Core.Bool.{false}
+use mathlib.Core.List.{List}
+use Prim.Native.Nat.{ℕ, _<_}
 use native.Mathlib.Omega.{arith}
-use borrow.Author.Tests.{eqb-true}
-use lib.Dec.{eqb}
+use borrow.Author.Tests.{le-ltb}
 use lib.ListN.{length, take}
 use Rattle.ranges.specs.Fold.{joinBelow}
-use Rattle.ranges.proofs.Bools.{or-true-cases}
+use Rattle.ranges.proofs.Any.{any-every}
 use Rattle.ranges.proofs.Tabulate.{tabulate-same}
 use Rattle.lent.proofs.Lent.{or-else-zero, or-else-second, named-words}
-use Rattle.lent.specs.Lent.{at, unlessRefused}
-use Rattle.bytes_le.specs.Little.{Bytes}
-use Rattle.bytes_le.proofs.Little.{bytes-append}
-use Rattle.records.specs.Forms.{isForm, firstForm, secondForm}
+use Rattle.lent.specs.Lent.{unlessRefused}
+use Rattle.log.specs.Limits.{maxEvents, maxCheckpoints, maxRole}
 use Rattle.log.specs.Header.{layoutRefusal}
 use Rattle.log.specs.Model.{Log, Workers, workerCount, roleOf, eventCount, checkpointCount}
-use Rattle.log.specs.Layout.{formField, sizeField, headerOf, field, eventCountField, eventOffsetField, checkpointCountField, checkpointOffsetField, roleField}
-use Rattle.records.specs.Event.{eventSize}
-use Rattle.records.specs.Checkpoint.{checkpointSize}
-use Rattle.log.specs.Layout.{section, eventSection, checkpointSection, workerOf, workersOf, logOf}
-use Rattle.log.proofs.Readable.{Entry, Readable, readable, laid-out}
+use Rattle.log.specs.Layout.{sizeField, field, eventCountField, checkpointCountField, eventSection, checkpointSection, workerOf, workersOf, logOf}
+use Rattle.log.proofs.Readable.{readable, length-passed}
 use Rattle.log.proofs.Read.{size-read, workers-few, count-read, checkpoints-read, role-read, count-field, checkpoints-field, role-field}
 use Rattle.accept.specs.Refusal.{contentRefusal, logRefusal}
 use Rattle.accept.proofs.Accepted.{accepted-layout}
-use Rattle.pack.specs.Packed.{eventAt, checkpointAt, sectionsOf, sectionsSize, startOf, numbersOf, packedLength, packed}
+use Rattle.pack.specs.Packed.{eventAt, checkpointAt, packedLength, packed}
 use Rattle.pack.specs.Archive.{Packable, Agree, Archived}
 use Rattle.pack.specs.Inner.Room.{KnownKinds}
 use Rattle.pack.proofs.Allowed.{accepted-kinds}
-use Rattle.pack.proofs.Writing.{end-within, header-within}
-use Rattle.pack.proofs.Records.{events-long, checkpoints-long, events-bytes, checkpoints-bytes, sections-bytes, sections-long, section-bytes}
-use Rattle.pack.proofs.Header.{form-field, size-field, length-field, entry-field, packed-long, packed-bytes, events-at, checkpoints-at}
+use Rattle.pack.proofs.Records.{events-long, checkpoints-long, events-bytes, checkpoints-bytes}
+use Rattle.pack.proofs.Header.{packed-all-long, packed-all-bytes}
+use Rattle.pack.proofs.Writing.{header-within}
+use Rattle.pack.proofs.ReadBack.{LogFits, overLimit, read-packed, packed-header, read-fits}
 
 -- ---- a log that is accepted and that 26 does not refuse
 module _ (s : List ℕ) (p : Packable s) where
@@ -44,158 +39,35 @@ module _ (s : List ℕ) (p : Packable s) where
   abbrev workers : Workers
   workers = workersOf s
 
-  abbrev n : ℕ
-  n = workerCount workers
-
   abbrev file : List ℕ
   file = packed (logOf s)
 
-  inside : (w : ℕ) → w < n → w < sizeField s
-  inside w h = rw (size-read s) at h
-
-  each : (k : ℕ) → k < n → length (sectionsOf workers k) ≡ sectionsSize workers k
-  each k h = sections-long s layout k h (p .bytes) known
-
-  -- each number of an entry has its place in 32 bits
-  small : (w : ℕ) → w < n → (j : ℕ) → at (numbersOf workers w) j < 4294967296
-  unfolding sectionsSize numbersOf
-  small w h j =
-      let events = count-field s layout w .1 in
-      let checkpoints = checkpoints-field s layout w .1 in
-      let role = role-field s layout w .1 in
-      let end = end-within workers w h in
-      let fits = p .fits in
-      go j (omega arith) (omega arith) (omega arith) (omega arith) (omega arith)
-    where
-      go : (j : ℕ) → eventCount workers w < 4294967296 → startOf workers w < 4294967296 → checkpointCount workers w < 4294967296
-          → startOf workers w + eventSize * eventCount workers w < 4294967296 → roleOf workers w < 4294967296 → at (numbersOf workers w) j < 4294967296
-      go zero a b c d e = a
-      go (suc zero) a b c d e = b
-      go (suc (suc zero)) a b c d e = c
-      go (suc (suc (suc zero))) a b c d e = d
-      go (suc (suc (suc (suc zero)))) a b c d e = e
-      go (suc (suc (suc (suc (suc j))))) a b c d e = omega arith
-
-  form-small : formField s < 65536
-  unfolding isForm
-  form-small =
-      ⊎-elim
-      (λ e. let one = eqb-true (formField s) firstForm e in omega arith)
-      (λ e. let two = eqb-true (formField s) secondForm e in omega arith)
-      (or-true-cases (eqb (formField s) firstForm) (eqb (formField s) secondForm) (readable s layout .form))
-
-  same-form : formField file ≡ formField s
-  same-form = form-field (logOf s) form-small
-
-  same-size : sizeField file ≡ sizeField s
-  same-size = let few = workers-few s layout in let little : n < 65536 = omega arith in size-field (logOf s) little ∙ size-read s
-
-  -- ---- worker by worker
-  module _ (w : ℕ) (h : w < n) where
-    count-same : field file w eventCountField ≡ field s w eventCountField
-    unfolding numbersOf
-    count-same = entry-field (logOf s) w 0 h (omega arith) (small w h 0) ∙ count-read s w (inside w h)
-
-    start-same : field file w eventOffsetField ≡ startOf workers w
-    unfolding numbersOf
-    start-same = entry-field (logOf s) w 1 h (omega arith) (small w h 1)
-
-    checkpoints-same : field file w checkpointCountField ≡ field s w checkpointCountField
-    unfolding numbersOf
-    checkpoints-same = entry-field (logOf s) w 2 h (omega arith) (small w h 2) ∙ checkpoints-read s w (inside w h)
-
-    behind-same : field file w checkpointOffsetField ≡ startOf workers w + eventSize * eventCount workers w
-    unfolding numbersOf
-    behind-same = entry-field (logOf s) w 3 h (omega arith) (small w h 3)
-
-    role-same : field file w roleField ≡ field s w roleField
-    unfolding numbersOf
-    role-same = entry-field (logOf s) w 4 h (omega arith) (small w h 4) ∙ role-read s w (inside w h)
-
-    both : sectionsOf workers w ≡ eventSection s w ++ checkpointSection s w
-    both = sections-bytes s layout w h (p .bytes) known
-
-    held-events : section file (field file w eventOffsetField) (eventSize * field file w eventCountField) ≡ eventSection s w
-    held-events =
-        let long : eventSize * field s w eventCountField ≡ length (eventSection s w) = rw (count-read s w (inside w h)) at (sym (events-long s layout w h)) in
-        rw (start-same, count-same, long) (events-at (logOf s) each w h (eventSection s w) (checkpointSection s w) both)
-
-    held-checkpoints : section file (field file w checkpointOffsetField) (checkpointSize * field file w checkpointCountField) ≡ checkpointSection s w
-    held-checkpoints =
-        let long : checkpointSize * field s w checkpointCountField ≡ length (checkpointSection s w) = rw (checkpoints-read s w (inside w h)) at (sym (checkpoints-long s layout w h)) in
-        rw (behind-same, checkpoints-same, long, sym (events-long s layout w h)) (checkpoints-at (logOf s) each w h (eventSection s w) (checkpointSection s w) both)
-
-    same-events : eventSection file w ≡ eventSection s w
-    unfolding eventSection
-    same-events = held-events
-
-    same-checkpoints : checkpointSection file w ≡ checkpointSection s w
-    unfolding checkpointSection
-    same-checkpoints = held-checkpoints
-
-    same-worker : workerOf file w ≡ workerOf s w
-    unfolding workerOf
-    same-worker = rw (same-form, role-same, count-same, checkpoints-same, same-events, same-checkpoints)
-
-  same-workers : workersOf file ≡ workersOf s
-  unfolding workersOf
-  same-workers = rw same-size (tabulate-same (workerOf file) (workerOf s) (sizeField s) (λ w h. same-worker w (rw (size-read s) h)))
+  -- its packed bytes are read as the same log
+  fits : LogFits (logOf s)
+  fits = let short = p .fits in read-fits s (p .bytes) (omega arith)
 
   same-log : logOf file ≡ logOf s
-  same-log = rw (same-form, same-workers)
+  same-log = read-packed (logOf s) fits
 
-  -- ---- it is accepted
-  pub length-same : length file ≡ packedLength workers
-  length-same = packed-long (logOf s) each
-
-  entry-read : (w : ℕ) → w < n → Entry file w
-  unfolding sectionsSize
-  entry-read w h =
-      let was = readable s layout .entry w (inside w h) in
-      let end = end-within workers w h in
-      let long = length-same in
-      let counted = count-read s w (inside w h) in
-      let recorded = checkpoints-read s w (inside w h) in
-      record {
-        events = rw (count-same w h) (was .events);
-        checkpoints = rw (checkpoints-same w h) (was .checkpoints);
-        role = rw (role-same w h) (was .role);
-        events-end = rw (start-same w h, count-same w h) (omega arith);
-        checkpoints-end = rw (behind-same w h, checkpoints-same w h) (omega arith);
-      }
-
-  file-inside : (w : ℕ) → w < sizeField file → w < n
-  file-inside w h = rw (size-read s) (rw same-size at h)
-
-  file-readable : Readable file
-  file-readable =
-      let was = readable s layout in
-      let long = length-same in
-      let fits = p .fits in
-      let within = header-within workers in
-      let size = size-read s in
-      record {
-        form = rw same-form (was .form);
-        long = omega arith;
-        short = omega arith;
-        some = rw same-size (was .some);
-        few = rw same-size (was .few);
-        header = rw same-size (omega arith);
-        entry = λ w h. entry-read w (file-inside w h);
-      }
-
-  behind-header : (w : ℕ) → w < sizeField file
-      → (headerOf (sizeField file) ≤ field file w eventOffsetField) × (headerOf (sizeField file) ≤ field file w checkpointOffsetField)
-  unfolding startOf
-  behind-header w h =
-      let size = size-read s in
-      rw (same-size, start-same w (file-inside w h), behind-same w (file-inside w h)) (omega arith, omega arith)
+  -- .. and are accepted: no count and no role is over its limit
+  within-limits : (w : ℕ) → w < workerCount workers → overLimit workers w ≡ false
+  unfolding overLimit
+  within-limits w h =
+      rw (
+        le-ltb maxEvents (eventCount workers w) (count-field s layout w .1),
+        le-ltb maxCheckpoints (checkpointCount workers w) (checkpoints-field s layout w .1),
+        le-ltb maxRole (roleOf workers w) (role-field s layout w .1),
+      )
 
   file-layout : layoutRefusal file ≡ 0
   file-layout =
-      let fits = p .fits in
-      let little : packedLength workers < 4294967296 = omega arith in
-      laid-out file file-readable (length-field (logOf s) little ∙ sym length-same) behind-header
+      let was = readable s layout in
+      let size = size-read s in
+      let long = packed-all-long (logOf s) in
+      let header = header-within workers in
+      let short = p .fits in
+      length-passed file (omega arith) (omega arith) ∙ packed-header (logOf s) fits (was .form) (omega arith) (workers-few s layout)
+      ∙ rw (any-every (overLimit workers) (workerCount workers) within-limits)
 
   file-accepted : logRefusal file ≡ 0
   unfolding logRefusal
@@ -203,16 +75,9 @@ module _ (s : List ℕ) (p : Packable s) where
       let content = or-else-zero (layoutRefusal s) (contentRefusal (logOf s)) (p .accepted) .1 in
       or-else-second (layoutRefusal file) (contentRefusal (logOf file)) file-layout ∙ ap contentRefusal same-log ∙ content
 
-  -- ---- its bytes are bytes
-  sections-all : (w : ℕ) → w < n → Bytes (sectionsOf workers w)
-  unfolding eventSection checkpointSection
-  sections-all w h = rw (both w h) (bytes-append (eventSection s w) (checkpointSection s w) (section-bytes s (p .bytes) _ _) (section-bytes s (p .bytes) _ _))
-
-  file-bytes : Bytes file
-  file-bytes = packed-bytes (logOf s) sections-all
-
   file-packable : Packable file
-  file-packable = record { bytes = file-bytes; accepted = file-accepted; fits = rw same-workers (p .fits) }
+  file-packable =
+      record { bytes = packed-all-bytes (logOf s); accepted = file-accepted; fits = rw (ap (λ (log : Log). log .workers) same-log) (p .fits) }
 
 -- ---- two of them
 -- logs that agree hold the same workers
@@ -271,7 +136,7 @@ agree s t p q e =
 pub archived : (s : List ℕ) → Packable s → Archived s (packed (logOf s))
 archived s p =
     record {
-      long = length-same s p;
+      long = packed-all-long (logOf s);
       packable = file-packable s p;
       same = same-log s p;
       again = ap packed (same-log s p);
@@ -283,4 +148,4 @@ archived s p =
 pub file-archived : (s : List ℕ) → Packable s → (out : List ℕ) (number : ℕ) → number ≡ packedLength (workersOf s)
     → Archived s (take number (unlessRefused 0 (packed (logOf s)) out))
 unfolding unlessRefused
-file-archived s p out number is = rw (is, named-words (packedLength (workersOf s)) (packed (logOf s)) out (length-same s p)) (archived s p)
+file-archived s p out number is = rw (is, named-words (packedLength (workersOf s)) (packed (logOf s)) out (packed-all-long (logOf s))) (archived s p)

@@ -1,30 +1,29 @@
--- The header of a packed log, number by number, and where its sections stand. Assumes nothing.
-use mathlib.Core.Path.{_≡_, refl, _∙_}
+-- The header of a packed log, number by number, where its sections stand, and how long it is. Assumes nothing.
+use mathlib.Core.Path.{_≡_, refl, sym, _∙_}
 use mathlib.Core.List.{List, [], _++_, append-assoc}
 use Prim.Native.Nat.{ℕ, _+_, _*_, _^_, _<_, _≤_}
+use native.Mathlib.Nat.{add-zero}
 use native.Mathlib.Omega.{arith}
 use lib.ListN.{length, length-append}
 use lib.Seq.{take-at, drop-at}
 use Rattle.ranges.specs.Fold.{joinBelow}
 use Rattle.ranges.proofs.Join.{length-join, join-at}
-use Rattle.ranges.proofs.Sum.{sum-constant}
 use Rattle.lent.specs.Lent.{at}
 use Rattle.bytes_le.specs.Little.{le, bytesOf, Bytes}
 use Rattle.bytes_le.proofs.Little.{le-front, le-behind, length-bytes, last-read, bytes-bytes, bytes-append, bytes-join}
-use Rattle.log.specs.Model.{Log, Workers, workerCount}
+use Rattle.records.specs.Event.{eventSize}
+use Rattle.records.specs.Checkpoint.{checkpointSize}
+use Rattle.log.specs.Model.{Log, Workers, workerCount, eventCount, checkpointCount}
 use Rattle.log.specs.Layout.{formField, sizeField, lengthField, headerOf, field}
 use Rattle.log.specs.Layout.{section}
-use Rattle.pack.specs.Packed.{numberAt, sectionsOf, sectionsSize, startOf, numbersOf, entryOf, packedLength, fieldsOf, packed}
-
--- ---- lists of bytes
-number-behind : (front : List ℕ) (width x : ℕ) → Bytes front → Bytes (front ++ bytesOf width x)
-number-behind front width x all = bytes-append front (bytesOf width x) all (bytes-bytes width x)
+use Rattle.pack.specs.Packed.{numberAt, eventAt, checkpointAt, sectionsOf, sectionsSize, startOf, numbersOf, entryOf, packedLength, fieldsOf, packed}
+use Rattle.pack.proofs.Records.{pieces-long, piece-read, events-all-long, checkpoints-all-long, sections-all-long, sections-all-bytes}
 
 -- ---- numbers of 32 bits, one behind the other
 module _ (numbers : List ℕ) where
   pub numbers-long : (n : ℕ) → length (joinBelow (numberAt numbers) n) ≡ 4 * n
   unfolding numberAt
-  numbers-long n = length-join (numberAt numbers) (λ (j : ℕ). 4) n (λ j h. length-bytes 4 (at numbers j)) ∙ sum-constant 4 n
+  numbers-long = pieces-long (numberAt numbers) 4 (λ j. length-bytes 4 (at numbers j))
 
   numbers-bytes : (n : ℕ) → Bytes (joinBelow (numberAt numbers) n)
   unfolding numberAt
@@ -34,12 +33,7 @@ module _ (numbers : List ℕ) where
   number-read : (n j : ℕ) → j < n → at numbers j < 256 ^ 4 → le 4 (joinBelow (numberAt numbers) n) (4 * j) ≡ at numbers j
   unfolding numberAt
   number-read n j h small =
-      let found = join-at (numberAt numbers) n j h in
-      let before = joinBelow (numberAt numbers) j in
-      let up = numbers-long j in
-      let mine = length-bytes 4 (at numbers j) in
-      let long : length (before ++ bytesOf 4 (at numbers j)) ≡ 4 * j + 4 = simp (length-append) (omega arith) in
-      rw (found .1) (le-front 4 (before ++ bytesOf 4 (at numbers j)) (found .0) (4 * j) (omega arith) ∙ last-read 4 (at numbers j) before (4 * j) up small)
+      (rw add-zero at (piece-read (numberAt numbers) 4 (λ k. length-bytes 4 (at numbers k)) n j h 4 0 (omega arith))) ∙ last-read 4 (at numbers j) [] 0 refl small
 
 -- ---- the entry of worker w
 module _ (log : Workers) (w : ℕ) where
@@ -52,7 +46,12 @@ module _ (log : Workers) (w : ℕ) where
   entry-bytes = numbers-bytes (numbersOf log w) 5
 
 pub entries-long : (log : Workers) (n : ℕ) → length (joinBelow (entryOf log) n) ≡ 20 * n
-entries-long log n = length-join (entryOf log) (λ (j : ℕ). 20) n (λ j h. entry-long log j) ∙ sum-constant 20 n
+entries-long log = pieces-long (entryOf log) 20 (entry-long log)
+
+-- the sections of worker w begin where those before them end
+pub sections-before : (log : Workers) (w : ℕ) → startOf log w ≡ headerOf (workerCount log) + length (joinBelow (sectionsOf log) w)
+unfolding startOf
+sections-before log w = rw (length-join (sectionsOf log) (sectionsSize log) w (λ k h. sections-all-long log k))
 
 -- the part of a list between two others
 section-between : (front part back : List ℕ) (start n : ℕ) → length front ≡ start → length part ≡ n → section (front ++ part ++ back) start n ≡ part
@@ -80,13 +79,9 @@ module _ (log : Log) where
   pub header-long : length header ≡ headerOf n
   header-long = rw (length-append fields (joinBelow (entryOf workers) n), fields-long, entries-long workers n)
 
-  pub packed-bytes : ((w : ℕ) → w < n → Bytes (sectionsOf workers w)) → Bytes (packed log)
+  pub packed-all-bytes : Bytes (packed log)
   unfolding packed fieldsOf
-  packed-bytes all =
-      let numbers = number-behind (bytesOf 2 (log .form) ++ bytesOf 2 n) 4 (packedLength workers) (number-behind (bytesOf 2 (log .form)) 2 n (bytes-bytes 2 (log .form))) in
-      bytes-append header (joinBelow (sectionsOf workers) n)
-      (bytes-append fields (joinBelow (entryOf workers) n) numbers (bytes-join (entryOf workers) n (λ w h. entry-bytes workers w)))
-      (bytes-join (sectionsOf workers) n all)
+  packed-all-bytes = search (bytes-append, bytes-bytes, bytes-join, entry-bytes, sections-all-bytes)
 
   -- the form, the worker count and the length, where each is no larger than its bytes can hold
   in-fields : (width place : ℕ) → place + width ≤ 8 → le width (packed log) place ≡ le width fields place
@@ -122,46 +117,42 @@ module _ (log : Log) where
   unfolding packed field entryOf
   entry-field w j h l small =
       let place = 20 * w + 4 * j in
-      let found = join-at (entryOf workers) n w h in
-      let before = joinBelow (entryOf workers) w in
-      let entry = entryOf workers w in
       let first = fields-long in
       let long = header-long in
-      let mine = entry-long workers w in
-      let up = entries-long workers w in
       let outside : headerOf w + 4 * j ≡ length fields + place = omega arith in
-      let upto : length (before ++ entry) ≡ 20 * w + 20 = simp (length-append) (omega arith) in
-      let inside : place ≡ length before + 4 * j = omega arith in
-      let outer : le 4 header (headerOf w + 4 * j) ≡ le 4 (joinBelow (entryOf workers) n) place = rw outside (le-behind 4 fields (joinBelow (entryOf workers) n) place) in
-      let front : le 4 (joinBelow (entryOf workers) n) place ≡ le 4 (before ++ entry) place = rw (found .1) (le-front 4 (before ++ entry) (found .0) place (omega arith)) in
-      let here : le 4 (before ++ entry) place ≡ le 4 entry (4 * j) = rw inside (le-behind 4 before entry (4 * j)) in
-      le-front 4 header (joinBelow (sectionsOf workers) n) (headerOf w + 4 * j) (omega arith) ∙ outer ∙ front ∙ here ∙ number-read (numbersOf workers w) 5 j l small
+      le-front 4 header (joinBelow (sectionsOf workers) n) (headerOf w + 4 * j) (omega arith)
+      ∙ rw outside (le-behind 4 fields (joinBelow (entryOf workers) n) place)
+      ∙ piece-read (entryOf workers) 20 (entry-long workers) n w h 4 (4 * j) (omega arith) ∙ number-read (numbersOf workers w) 5 j l small
 
-  -- ---- the sections, each as long as it should be
-  module _ (each : (k : ℕ) → k < n → length (sectionsOf workers k) ≡ sectionsSize workers k) where
-    pub packed-long : length (packed log) ≡ packedLength workers
-    unfolding packed packedLength startOf
-    packed-long = rw (length-append header (joinBelow (sectionsOf workers) n), header-long, length-join (sectionsOf workers) (sectionsSize workers) n each)
+  -- ---- the sections
+  pub packed-all-long : length (packed log) ≡ packedLength workers
+  unfolding packed packedLength
+  packed-all-long = rw (length-append header (joinBelow (sectionsOf workers) n), header-long) (sym (sections-before workers n))
 
-    -- what stands before the sections of worker w
-    before-long : (w : ℕ) → w ≤ n → length (header ++ joinBelow (sectionsOf workers) w) ≡ startOf workers w
-    unfolding startOf
-    before-long w h =
-        rw (length-append header (joinBelow (sectionsOf workers) w), header-long, length-join (sectionsOf workers) (sectionsSize workers) w (λ k l. each k (omega arith)))
+  module _ (w : ℕ) (h : w < n) where
+    abbrev before : List ℕ
+    before = header ++ joinBelow (sectionsOf workers) w
 
-    module _ (w : ℕ) (h : w < n) (events checkpoints : List ℕ) (both : sectionsOf workers w ≡ events ++ checkpoints) where
-      split : (rest : List ℕ) × (packed log ≡ header ++ joinBelow (sectionsOf workers) w ++ events ++ checkpoints ++ rest)
-      unfolding packed
-      split = let found = join-at (sectionsOf workers) n w h in (found .0, rw (found .1, both) (simp append-assoc))
+    abbrev events : List ℕ
+    events = joinBelow (eventAt workers w) (eventCount workers w)
 
-      pub events-at : section (packed log) (startOf workers w) (length events) ≡ events
-      events-at =
-          let before = header ++ joinBelow (sectionsOf workers) w in
-          rw (split .1, append-assoc (before ++ events) checkpoints (split .0)) (section-between before events (checkpoints ++ split .0) (startOf workers w) (length events) (before-long w (omega arith)) refl)
+    abbrev checkpoints : List ℕ
+    checkpoints = joinBelow (checkpointAt workers w) (checkpointCount workers w)
 
-      pub checkpoints-at : section (packed log) (startOf workers w + length events) (length checkpoints) ≡ checkpoints
-      checkpoints-at =
-          let before = header ++ joinBelow (sectionsOf workers) w ++ events in
-          let long : length before ≡ startOf workers w + length events =
-          rw (length-append (header ++ joinBelow (sectionsOf workers) w) events, before-long w (omega arith)) in
-          rw (split .1) (section-between before checkpoints (split .0) (startOf workers w + length events) (length checkpoints) long refl)
+    before-long : length before ≡ startOf workers w
+    before-long = rw (length-append header (joinBelow (sectionsOf workers) w), header-long) (sym (sections-before workers w))
+
+    split : (rest : List ℕ) × (packed log ≡ before ++ events ++ checkpoints ++ rest)
+    unfolding packed sectionsOf
+    split = let found = join-at (sectionsOf workers) n w h in (found .0, rw (found .1) (simp append-assoc))
+
+    pub events-at : section (packed log) (startOf workers w) (eventSize * eventCount workers w) ≡ events
+    events-at =
+        rw (split .1, append-assoc (before ++ events) checkpoints (split .0))
+        (section-between before events (checkpoints ++ split .0) _ _ before-long (events-all-long workers w (eventCount workers w)))
+
+    pub checkpoints-at : section (packed log) (startOf workers w + eventSize * eventCount workers w) (checkpointSize * checkpointCount workers w) ≡ checkpoints
+    checkpoints-at =
+        let long : length (before ++ events) ≡ startOf workers w + eventSize * eventCount workers w =
+        rw (length-append before events, before-long, events-all-long workers w (eventCount workers w)) in
+        rw (split .1) (section-between (before ++ events) checkpoints (split .0) _ _ long (checkpoints-all-long workers w (checkpointCount workers w)))

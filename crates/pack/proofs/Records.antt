@@ -1,4 +1,5 @@
--- The records of a log of bytes, written again, are the bytes of its sections. Assumes nothing.
+-- The records of a packed log have their sizes whatever their numbers, and those of a log of bytes, written again, are the bytes of its
+-- sections. Assumes nothing.
 use mathlib.Core.Path.{_≡_, sym, _∙_}
 use mathlib.Core.Logic.{⊎-elim, _≢_}
 use mathlib.Core.List.{List, _++_}
@@ -10,14 +11,18 @@ use lib.ListN.{length, take, drop, length-append, List·getD-eq-default, length-
 use lib.Seq.{take-add, drop-drop, take-all, getD-take, getD-drop}
 use Rattle.ranges.specs.Fold.{joinBelow}
 use Rattle.ranges.proofs.Order.{lt-or-le}
+use Rattle.ranges.proofs.Join.{length-join, join-at}
+use Rattle.ranges.proofs.Sum.{sum-constant}
 use Rattle.bytes_le.specs.Little.{le, bytesOf, Bytes}
-use Rattle.bytes_le.proofs.Little.{read-bytes, number-below}
+use Rattle.bytes_le.proofs.Little.{le-front, le-behind, length-bytes, bytes-bytes, bytes-append, bytes-join, read-bytes, number-below}
+use Rattle.records.specs.declared.Event.{Event}
+use Rattle.records.specs.declared.Checkpoint.{Checkpoint}
 use Rattle.records.specs.declared.Kind.the-variants.{Rest}
 use Rattle.log.specs.Header.{layoutRefusal}
 use Rattle.log.specs.Layout.{formField, sizeField, field, eventCountField, checkpointCountField, section, eventSection, checkpointSection, workersOf}
 use Rattle.records.specs.Event.{eventSize, kindByte, eventRecord}
 use Rattle.records.specs.Checkpoint.{checkpointSize, identifierWord, checkpointRecord}
-use Rattle.log.specs.Model.{workerCount, eventCount, checkpointCount}
+use Rattle.log.specs.Model.{Workers, workerCount, eventCount, eventOf, checkpointCount, checkpointOf}
 use Rattle.log.proofs.Readable.{readable}
 use Rattle.log.proofs.Read.{section-length, size-read, count-read, checkpoints-read, event-read, checkpoint-read}
 use Rattle.records.proofs.EventKinds.{kind-table}
@@ -25,6 +30,56 @@ use Rattle.records.proofs.Marked.{word-back}
 use Rattle.pack.specs.Inner.Room.{KnownKinds}
 use Rattle.pack.specs.Packed.{eventBytes, checkpointBytes, eventAt, checkpointAt, sectionsOf, sectionsSize}
 
+-- ---- pieces of one size, one behind the other
+module _ (f : ℕ → List ℕ) (size : ℕ) (each : (k : ℕ) → length (f k) ≡ size) where
+  pub pieces-long : (n : ℕ) → length (joinBelow f n) ≡ size * n
+  pieces-long n = length-join f (λ (k : ℕ). size) n (λ k h. each k) ∙ sum-constant size n
+
+  -- a number of piece k is read where the piece stands
+  pub piece-read : (n k : ℕ) → k < n → (width at : ℕ) → at + width ≤ size → le width (joinBelow f n) (size * k + at) ≡ le width (f k) at
+  piece-read n k h width at fits =
+      let found = join-at f n k h in
+      let before = pieces-long k in
+      let mine = each k in
+      let upto : length (joinBelow f k ++ f k) ≡ size * k + size = simp length-append (omega arith) in
+      rw (found .1) (le-front width (joinBelow f k ++ f k) (found .0) (size * k + at) (omega arith) ∙ rw (← before) (le-behind width (joinBelow f k) (f k) at))
+
+-- ---- the records of every log: each has its size and is bytes, whatever its numbers
+pub event-long : (e : Event) → length (eventBytes e) ≡ eventSize
+unfolding eventBytes
+event-long e = simp (length-append, length-bytes)
+
+pub checkpoint-long : (c : Checkpoint) → length (checkpointBytes c) ≡ checkpointSize
+unfolding checkpointBytes
+checkpoint-long c = simp (length-append, length-bytes)
+
+event-all-bytes : (e : Event) → Bytes (eventBytes e)
+unfolding eventBytes
+event-all-bytes e = search (bytes-append, bytes-bytes)
+
+checkpoint-all-bytes : (c : Checkpoint) → Bytes (checkpointBytes c)
+unfolding checkpointBytes
+checkpoint-all-bytes c = search (bytes-append, bytes-bytes)
+
+module _ (log : Workers) (w : ℕ) where
+  pub events-all-long : (k : ℕ) → length (joinBelow (eventAt log w) k) ≡ eventSize * k
+  unfolding eventAt
+  events-all-long = pieces-long (eventAt log w) eventSize (λ k. event-long (eventOf log w (k + 1)))
+
+  pub checkpoints-all-long : (k : ℕ) → length (joinBelow (checkpointAt log w) k) ≡ checkpointSize * k
+  unfolding checkpointAt
+  checkpoints-all-long = pieces-long (checkpointAt log w) checkpointSize (λ k. checkpoint-long (checkpointOf log w (k + 1)))
+
+  pub sections-all-long : length (sectionsOf log w) ≡ sectionsSize log w
+  unfolding sectionsOf sectionsSize
+  sections-all-long =
+      let events = events-all-long (eventCount log w) in let checkpoints = checkpoints-all-long (checkpointCount log w) in simp length-append (omega arith)
+
+  pub sections-all-bytes : Bytes (sectionsOf log w)
+  unfolding sectionsOf eventAt checkpointAt
+  sections-all-bytes = search (bytes-append, bytes-join, event-all-bytes, checkpoint-all-bytes)
+
+-- ---- a section of bytes
 module _ (s : List ℕ) where
   -- two sections, one right behind the other
   section-join : (start a b : ℕ) → section s start a ++ section s (start + a) b ≡ section s start (a + b)
@@ -111,7 +166,3 @@ module _ (s : List ℕ) (ok : layoutRefusal s ≡ 0) (w : ℕ) (h : w < workerCo
       pub sections-bytes : sectionsOf (workersOf s) w ≡ eventSection s w ++ checkpointSection s w
       unfolding sectionsOf
       sections-bytes = rw (events-bytes, checkpoints-bytes)
-
-      pub sections-long : length (sectionsOf (workersOf s) w) ≡ sectionsSize (workersOf s) w
-      unfolding sectionsSize
-      sections-long = rw (sections-bytes, length-append (eventSection s w) (checkpointSection s w), events-long, checkpoints-long)

@@ -8,7 +8,7 @@ use lib.ListN.{length, length-append}
 use mir.Syntax.{w64}
 use mir.Val.{Fits}
 use Rattle.ranges.specs.Fold.{joinBelow}
-use Rattle.ranges.proofs.Join.{join-none, join-more, length-join}
+use Rattle.ranges.proofs.Join.{join-none, join-more}
 use Rattle.ranges.proofs.Sum.{sum-none, sum-more, sum-grows, sum-bound}
 use Rattle.lent.specs.Lent.{onto}
 use Rattle.lent.specs.Inner.Overwrite.{overwrite}
@@ -24,7 +24,7 @@ use Rattle.records.specs.Checkpoint.{checkpointSize}
 use Rattle.log.proofs.Read.{workers-few, count-field, checkpoints-field}
 use Rattle.pack.specs.Packed.{sectionsOf, sectionsSize, startOf, entryOf, packedLength, fieldsOf, packed}
 use Rattle.pack.specs.Inner.Room.{KnownKinds, Room}
-use Rattle.pack.proofs.Records.{events-long, checkpoints-long, sections-bytes, sections-long}
+use Rattle.pack.proofs.Records.{events-long, checkpoints-long, sections-bytes}
 use Rattle.pack.proofs.Header.{fields-long, header-long}
 
 module _ (log : Workers) where
@@ -36,6 +36,11 @@ module _ (log : Workers) where
   unfolding startOf
   start-next w = rw (sum-more (sectionsSize log) w) (omega arith)
 
+  -- the sections begin behind the header
+  pub start-behind : (w : ℕ) → headerOf (workerCount log) ≤ startOf log w
+  unfolding startOf
+  start-behind w = omega arith
+
   start-within : (w : ℕ) → w ≤ workerCount log → startOf log w ≤ packedLength log
   unfolding packedLength startOf
   start-within w h = let grows = sum-grows (sectionsSize log) w (workerCount log) h in omega arith
@@ -45,7 +50,8 @@ module _ (log : Workers) where
   end-within w h = let next = start-next w in let within = start-within (w + 1) (omega arith) in omega arith
 
   pub header-within : headerOf (workerCount log) ≤ packedLength log
-  header-within = let first = start-first in let within = start-within 0 (omega arith) in omega arith
+  unfolding packedLength
+  header-within = start-behind (workerCount log)
 
 -- a piece, and then another at the place where it ends
 more-at : (k at : ℕ) (lent a b : List ℕ) → k ≤ length lent → at ≡ k + length a → overwrite at b (overwrite k a lent) ≡ overwrite k (a ++ b) lent
@@ -99,12 +105,6 @@ module _ (s : List ℕ) (ok : layoutRefusal s ≡ 0) where
       let bound = start-small (w + 1) in
       let next = start-next (workersOf s) w in
       record { fits = omega arith }
-
-  -- the sections of worker w begin where those written before them end
-  pub sections-before : Bytes s → KnownKinds (workersOf s) → (w : ℕ) → w ≤ workerCount (workersOf s)
-      → startOf (workersOf s) w ≡ headerOf (workerCount (workersOf s)) + length (joinBelow (sectionsOf (workersOf s)) w)
-  unfolding startOf
-  sections-before all known w h = rw (length-join (sectionsOf (workersOf s)) (sectionsSize (workersOf s)) w (λ k l. sections-long s ok k (omega arith) all known))
 
   module _ (w : ℕ) (h : w < workerCount (workersOf s)) where
     pub parts-long : length (eventSection s w) + length (checkpointSection s w) ≡ sectionsSize (workersOf s) w

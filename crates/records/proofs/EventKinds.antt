@@ -5,6 +5,7 @@ use mathlib.Core.Bool.{Bool, true, false, cond, _||_, false≢true}
 use mathlib.Core.List.{List}
 use mathlib.Core.Logic.{_⊎_, _≢_, ⊎-elim}
 use Prim.Native.Nat.{ℕ, _<_}
+use native.Mathlib.Omega.{arith}
 use borrow.Author.Tests.{eqb-true, eqb-false, ne-eqb}
 use lib.Dec.{eqb}
 use lib.ListN.{getD}
@@ -57,6 +58,19 @@ kind-table = record { cases = refl; back = read-back; tests = same-test }
 -- .. so a byte has the case that the table has at its place
 pub table-at : (byte : ℕ) → byte < 256 → kindOf byte ≡ getD recordTable byte Rest
 table-at byte small = sym (getD-tabulate kindOf 256 byte Rest small) ∙ ap (λ (table : List Kind). getD table byte Rest) (kind-table .cases)
+
+-- .. and the number of a case, that of the rest too, is a byte that is read as the case
+pub number-read : (kind : Kind) → kindOf (kindNumber kind) ≡ kind
+number-read Send = refl
+number-read Unlogged = refl
+number-read Logged = refl
+number-read Rest = refl
+
+pub number-small : (kind : Kind) → kindNumber kind < 256
+number-small Send = omega arith
+number-small Unlogged = omega arith
+number-small Logged = omega arith
+number-small Rest = omega arith
 
 -- ---- kinds beside each other
 -- no event is neither a send nor a receive

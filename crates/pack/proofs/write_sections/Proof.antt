@@ -4,11 +4,11 @@ use mathlib.Core.Path.{_≡_, sym, _∙_}
 use Prim.Native.Nat.{_-_}
 use native.Mathlib.Omega.{arith}
 use borrow.Author.Needs.{needs}
-use Rattle.bytes_le.specs.Little.{Bytes}
 use Rattle.log.specs.Model.{workerCount}
 use Rattle.log.specs.Layout.{headerOf, workersOf}
 use Rattle.pack.specs.Packed.{startOf, sectionsOf}
-use Rattle.pack.proofs.Writing.{Written, written-none, written-more, written-end, room-same, start-first, header-within, sections-before}
+use Rattle.pack.proofs.Header.{sections-before}
+use Rattle.pack.proofs.Writing.{Written, written-none, written-more, written-end, room-same, start-first, header-within}
 use Rattle.pack.proofs.write_sections.Statement.{statement}
 use Rattle.pack.proofs.write_sections.Tie as tie
 
@@ -47,11 +47,10 @@ loop-again : tie.Need-loop-again Inv-loop μ-loop
 loop-again c =
     let turn = c .before .before .before .before .before in
     let start = turn .before .before .before .before .before in
-    let within = header-within (workersOf (start .args .log .now)) in
-    let all : Bytes (start .args .log .now) = λ i. omega (arith, turn .before .before .before .before .shared-slice-known .given i) in (
+    let within = header-within (workersOf (start .args .log .now)) in (
       c .before .before .copy-sections .ensures .0,
       written-more (turn .loop .inv .1) (c .before .before .before .before .loop-test .taken) (omega (arith, start .pre .enough))
-          (turn .loop .inv .0 ∙ sections-before _ (start .pre .layout) all (start .pre .kinds) (turn .loop .w) (omega (arith, turn .before .before .worker-count .ensures .0, turn .loop .inv .1 .few)))
+          (turn .loop .inv .0 ∙ sections-before _ (turn .loop .w))
           (c .before .before .copy-sections .ensures .1) (c .before .out .given),
     )
 
