@@ -26,7 +26,7 @@ pub record PackLent (s : List ℕ) (lent others : ℕ) : Type 0 where
 pub accepted-kinds : (s : List ℕ) → logRefusal s ≡ 0 → KnownKinds (workersOf s)
 accepted-kinds s accepted = known-kind (workersOf s) (well-formed s accepted)
 
-room-ok : (size lent : ℕ) → roomRefusal size lent ≡ 0 → (size ≤ maxLength) × (size ≤ lent)
+pub room-ok : (size lent : ℕ) → roomRefusal size lent ≡ 0 → (size ≤ maxLength) × (size ≤ lent)
 unfolding roomRefusal
 room-ok size lent e =
     let over = peel (ltb maxLength size) 25 (cond (ltb lent size) 25 0) e in

@@ -1,5 +1,5 @@
--- The packed bytes of any log whose numbers have room in their bytes are read as that log, whatever its form, its kinds and its length, and
--- of the refusals 2 to 6 they can have 5 alone. Assumes nothing.
+-- The packed bytes of any log whose numbers have room in their bytes are read as that log, whatever its form, its kinds and its length. Where
+-- its form is one that a call takes and it has 1 to `maxWorkers` workers, of the refusals 2 to 6 they can have 5 alone. Assumes nothing.
 use mathlib.Core.Path.{_≡_, refl, sym, _∙_}
 use mathlib.Core.Bool.{Bool, true, false, cond, _||_}
 use mathlib.Core.List.{List, [], _++_}

@@ -15,14 +15,14 @@ use Rattle.lent.specs.Inner.Overwrite.{overwrite}
 use Rattle.lent.proofs.Overwrite.{overwrite-none, overwrite-more}
 use Rattle.bytes_le.specs.Little.{bytesOf, Bytes}
 use Rattle.bytes_le.proofs.Little.{length-bytes}
-use Rattle.log.specs.Model.{Log, Workers, workerCount}
+use Rattle.log.specs.Model.{Log, Workers, workerCount, eventCount, checkpointCount}
 use Rattle.log.specs.Header.{layoutRefusal}
 use Rattle.log.specs.Limits.{maxLength, maxWorkers, maxEvents, maxCheckpoints}
 use Rattle.log.specs.Layout.{headerOf, eventSection, checkpointSection, workersOf}
 use Rattle.records.specs.Event.{eventSize}
 use Rattle.records.specs.Checkpoint.{checkpointSize}
 use Rattle.log.proofs.Read.{workers-few, count-field, checkpoints-field}
-use Rattle.pack.specs.Packed.{sectionsOf, sectionsSize, startOf, entryOf, packedLength, fieldsOf, packed}
+use Rattle.pack.specs.Packed.{fieldBytes, sectionsOf, sectionsSize, startOf, entryOf, packedLength, fieldsOf, packed}
 use Rattle.pack.specs.Inner.Room.{KnownKinds, Room}
 use Rattle.pack.proofs.Records.{events-long, checkpoints-long, sections-bytes}
 use Rattle.pack.proofs.Header.{fields-long, header-long}
@@ -53,8 +53,13 @@ module _ (log : Workers) where
   unfolding packedLength
   header-within = start-behind (workerCount log)
 
+  -- .. and so do the entry of each worker and its events
+  pub entry-within : (w : ℕ) → w < workerCount log → (headerOf (w + 1) ≤ packedLength log) × (startOf log w + eventSize * eventCount log w ≤ packedLength log)
+  unfolding sectionsSize
+  entry-within w h = let within = header-within in let end = end-within w h in (omega arith, omega arith)
+
 -- a piece, and then another at the place where it ends
-more-at : (k at : ℕ) (lent a b : List ℕ) → k ≤ length lent → at ≡ k + length a → overwrite at b (overwrite k a lent) ≡ overwrite k (a ++ b) lent
+pub more-at : (k at : ℕ) (lent a b : List ℕ) → k ≤ length lent → at ≡ k + length a → overwrite at b (overwrite k a lent) ≡ overwrite k (a ++ b) lent
 more-at k at lent a b fits place = rw place (overwrite-more k lent a b fits)
 
 -- pieces of a fold written one behind the other, from place k on: w of n are written
@@ -80,32 +85,40 @@ module _ {f : ℕ → List ℕ} {k : ℕ} {lent : List ℕ} {n w : ℕ} {out : L
   pub written-end : n ≤ w → {m : ℕ} → n ≡ m → out ≡ overwrite k (joinBelow f m) lent
   written-end h size = let all : w ≡ n = le-antisymm (done .few) h in done .holds ∙ rw (all, size)
 
--- ---- a log that passes the tests 1 to 6
+-- ---- a log of no more workers, events and checkpoints than there may be
 -- the bytes that the sections of a worker have at most
 abbrev pub mostBytes : ℕ
 mostBytes = eventSize * maxEvents + checkpointSize * maxCheckpoints
 
-module _ (s : List ℕ) (ok : layoutRefusal s ≡ 0) where
-  -- no sum is large, however the sections share their bytes
-  size-small : (w : ℕ) → sectionsSize (workersOf s) w ≤ mostBytes
-  unfolding sectionsSize
-  size-small w = let events = count-field s ok w .1 in let checkpoints = checkpoints-field s ok w .1 in omega arith
+pub record Limited (log : Workers) : Type 0 where
+  pub few : workerCount log ≤ maxWorkers
+  pub events : (w : ℕ) → eventCount log w ≤ maxEvents
+  pub recorded : (w : ℕ) → checkpointCount log w ≤ maxCheckpoints
 
-  start-small : (w : ℕ) → startOf (workersOf s) w ≤ headerOf maxWorkers + w * mostBytes
+module _ {log : Workers} (small : Limited log) where
+  -- no sum is large, however the sections share their bytes
+  size-small : (w : ℕ) → sectionsSize log w ≤ mostBytes
+  unfolding sectionsSize
+  size-small w = omega (arith, small .events w, small .recorded w)
+
+  start-small : (w : ℕ) → startOf log w ≤ headerOf maxWorkers + w * mostBytes
   unfolding startOf
-  start-small w =
-      let few = workers-few s ok in
-      let bound = sum-bound (sectionsSize (workersOf s)) w mostBytes (λ k h. size-small k) in
-      omega arith
+  start-small w = omega (arith, small .few, sum-bound (sectionsSize log) w mostBytes (λ k h. size-small k))
 
   -- .. so the start of the next worker's sections fits a `usize`
-  pub next-fits : {w start size : ℕ} → w < workerCount (workersOf s) → start ≡ startOf (workersOf s) w → size ≡ sectionsSize (workersOf s) w → Fits w64 (start + size)
-  next-fits {w} h place long =
-      let few = workers-few s ok in
-      let bound = start-small (w + 1) in
-      let next = start-next (workersOf s) w in
-      record { fits = omega arith }
+  pub next-fits : {w start size : ℕ} → w < workerCount log → start ≡ startOf log w → size ≡ sectionsSize log w → Fits w64 (start + size)
+  next-fits {w} h place long = record { fits = omega (arith, small .few, start-small (w + 1), start-next log w) }
 
+  -- .. and the length of the packed log 32 bits
+  pub length-small : packedLength log < 4294967296
+  unfolding packedLength
+  length-small = omega (arith, small .few, start-small (workerCount log))
+
+-- ---- a log that passes the tests 1 to 6
+pub limited : (s : List ℕ) → layoutRefusal s ≡ 0 → Limited (workersOf s)
+limited s ok = record { few = workers-few s ok; events = λ w. count-field s ok w .1; recorded = λ w. checkpoints-field s ok w .1 }
+
+module _ (s : List ℕ) (ok : layoutRefusal s ≡ 0) where
   module _ (w : ℕ) (h : w < workerCount (workersOf s)) where
     pub parts-long : length (eventSection s w) + length (checkpointSection s w) ≡ sectionsSize (workersOf s) w
     unfolding sectionsSize
@@ -133,17 +146,14 @@ parts-room {s} {lent} {w} room h place =
     (omega (arith, room .fits), omega (arith, room .enough))
 
 -- ---- the fields before the entries, written one by one
-pub fields-written : (log : Log) (out : List ℕ)
-    → overwrite 4 (bytesOf 4 (packedLength (log .workers))) (overwrite 2 (bytesOf 2 (workerCount (log .workers))) (overwrite 0 (bytesOf 2 (log .form)) out))
-    ≡ overwrite 0 (fieldsOf log) out
-unfolding fieldsOf
-fields-written log out =
-    let one = bytesOf 2 (log .form) in
-    let two = one ++ bytesOf 2 (workerCount (log .workers)) in
-    let long : length one ≡ 2 = length-bytes 2 (log .form) in
+pub fields-written : (form n size : ℕ) (out : List ℕ)
+    → overwrite 4 (bytesOf 4 size) (overwrite 2 (bytesOf 2 n) (overwrite 0 (bytesOf 2 form) out)) ≡ overwrite 0 (fieldBytes form n size) out
+fields-written form n size out =
+    let one = bytesOf 2 form in
+    let two = one ++ bytesOf 2 n in
+    let long : length one ≡ 2 = length-bytes 2 form in
     let long₂ : length two ≡ 4 = simp (length-append, length-bytes) in
-    rw (more-at 0 2 out one (bytesOf 2 (workerCount (log .workers))) (omega arith) (omega arith))
-    (more-at 0 4 out two (bytesOf 4 (packedLength (log .workers))) (omega arith) (omega arith))
+    rw (more-at 0 2 out one (bytesOf 2 n) (omega arith) (omega arith)) (more-at 0 4 out two (bytesOf 4 size) (omega arith) (omega arith))
 
 -- .. then the entries, then the sections: the packed log, and every byte behind it untouched
 pub packed-written : (log : Log) (out : List ℕ)

@@ -26,6 +26,19 @@ checkpointBytes c = bytesOf 4 (c .index) ++ bytesOf 4 (withMark c)
 unfoldable pub numberAt : List ℕ → ℕ → List ℕ
 numberAt numbers j = bytesOf 4 (at numbers j)
 
+-- "Bytes 0-1: form, .. Bytes 2-3: worker count n, .. Bytes 4-7: length of the log in bytes"
+abbrev pub fieldBytes : ℕ → ℕ → ℕ → List ℕ
+fieldBytes form n size = bytesOf 2 form ++ bytesOf 2 n ++ bytesOf 4 size
+
+-- "event count .., event offset, checkpoint count .., checkpoint offset, role": of sections that begin at `start`, the checkpoints right
+-- behind the events
+abbrev pub entryNumbers : ℕ → ℕ → ℕ → ℕ → List ℕ
+entryNumbers start events checkpoints role = events ∷ start ∷ checkpoints ∷ (start + eventSize * events) ∷ role ∷ []
+
+-- the "entries of five 32-bit numbers"
+abbrev pub entryBytes : ℕ → ℕ → ℕ → ℕ → List ℕ
+entryBytes start events checkpoints role = joinBelow (numberAt (entryNumbers start events checkpoints role)) 5
+
 module _ (log : Workers) where
   -- record k, from 0, of the events and of the checkpoints of worker w
   unfoldable pub eventAt : ℕ → ℕ → List ℕ
@@ -45,11 +58,10 @@ module _ (log : Workers) where
   unfoldable pub startOf : ℕ → ℕ
   startOf w = headerOf (workerCount log) + sumBelow sectionsSize w
 
-  -- "event count .., event offset, checkpoint count .., checkpoint offset, role": an empty section stands where it would begin
+  -- the numbers of the entry of worker w, and their bytes: an empty section stands where it would begin
   unfoldable pub numbersOf : ℕ → List ℕ
-  numbersOf w = eventCount log w ∷ startOf w ∷ checkpointCount log w ∷ (startOf w + eventSize * eventCount log w) ∷ roleOf log w ∷ []
+  numbersOf w = entryNumbers (startOf w) (eventCount log w) (checkpointCount log w) (roleOf log w)
 
-  -- the "entries of five 32-bit numbers"
   unfoldable pub entryOf : ℕ → List ℕ
   entryOf w = joinBelow (numberAt (numbersOf w)) 5
 
@@ -57,9 +69,9 @@ module _ (log : Workers) where
   unfoldable pub packedLength : ℕ
   packedLength = startOf (workerCount log)
 
--- "Bytes 0-1: form, .. Bytes 2-3: worker count n, .. Bytes 4-7: length of the log in bytes"
+-- the form, the worker count and the length of a packed log
 unfoldable pub fieldsOf : Log → List ℕ
-fieldsOf log = bytesOf 2 (log .form) ++ bytesOf 2 (workerCount (log .workers)) ++ bytesOf 4 (packedLength (log .workers))
+fieldsOf log = fieldBytes (log .form) (workerCount (log .workers)) (packedLength (log .workers))
 
 -- these, "then n entries", then the sections
 unfoldable pub packed : Log → List ℕ

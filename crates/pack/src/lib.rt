@@ -1,16 +1,17 @@
 // The packed log of an accepted log: the same log, with its sections in worker order and without gaps.
 
 ghost use mathlib.Core.Path.{_≡_};
-ghost use Prim.Native.Nat.{_+_, _<_, _≤_};
+ghost use Prim.Native.Nat.{_+_, _*_, _<_, _≤_};
 ghost use lib.ListN.{length, take};
 ghost use Rattle.ranges.specs.Fold.{joinBelow};
 ghost use Rattle.lent.specs.Lent.{unlessRefused};
 ghost use Rattle.lent.specs.Inner.Overwrite.{overwrite};
 ghost use Rattle.log.specs.Header.{layoutRefusal};
+ghost use Rattle.log.specs.Limits.{maxLength, maxWorkers};
 ghost use Rattle.log.specs.Layout.{headerOf, workersOf, logOf};
 ghost use Rattle.log.specs.Model.{workerCount};
 ghost use Rattle.accept.specs.Refusal.{given};
-ghost use Rattle.pack.specs.Packed.{numberAt, sectionsOf, sectionsSize, startOf, entryOf, packedLength, fieldsOf, packed};
+ghost use Rattle.pack.specs.Packed.{fieldBytes, numberAt, entryBytes, sectionsOf, sectionsSize, startOf, entryOf, packedLength, packed};
 ghost use Rattle.pack.specs.Inner.Room.{Room};
 ghost use Rattle.pack.specs.Calls.{roomRefusal, packRefusal, packAnswer};
 ghost use Rattle.pack.specs.Archive.{Archived};
@@ -45,7 +46,7 @@ fn packed_length(log: &[u8]) -> usize
 }
 
 // Refusals 26 and 25, of the length of the packed log and the number of bytes lent.
-fn room_refusal(size: usize, lent: usize) -> u32
+pub fn room_refusal(size: usize, lent: usize) -> u32
     ensures answer { λ r. ⌜ r ≡ roomRefusal size lent ⌝ }
 {
     if log::MAX_LENGTH < size {
@@ -68,13 +69,13 @@ fn pack_refusal(log: &[u8], lent: usize, others: u32) -> u32
     lent::or_else(room_refusal(packed_length(log), lent), others)
 }
 
-// Writes the form, the worker count and the length, which is that of the packed log.
-fn write_fields(log: &[u8], size: usize, out: &mut [u8])
-    requires { ⌜ Room (now log) (length (now out)) × (size ≡ packedLength (workersOf (now log))) ⌝ }
-    ensures out { λ _. ⌜ now (out .exit) ≡ overwrite 0 (fieldsOf (logOf (now (log .entry)))) (now (out .entry)) ⌝ }
+// Writes the form, the worker count and the length of a log.
+pub fn write_fields(form: u32, n: usize, size: usize, out: &mut [u8])
+    requires { ⌜ (8 ≤ length (now out)) × (n ≤ maxWorkers) × (size ≤ maxLength) ⌝ }
+    ensures out { λ _. ⌜ now (out .exit) ≡ overwrite 0 (fieldBytes form n size) (now (out .entry)) ⌝ }
 {
-    bytes_le::write2(out, 0, log::form_field(log));
-    bytes_le::write2(out, 2, log::worker_count(log) as u32);
+    bytes_le::write2(out, 0, form);
+    bytes_le::write2(out, 2, n as u32);
     bytes_le::write4(out, 4, size as u32);
 }
 
@@ -90,19 +91,13 @@ fn write_numbers(numbers: [u32; 5], out: &mut [u8], at: usize)
     }
 }
 
-// Writes the entry of worker w, whose sections begin at `start`.
-fn write_entry(log: &[u8], w: usize, start: usize, out: &mut [u8])
-    requires { ⌜ Room (now log) (length (now out)) × (w < workerCount (workersOf (now log))) × (start ≡ startOf (workersOf (now log)) w) ⌝ }
-    ensures out { λ _. ⌜ now (out .exit) ≡ overwrite (headerOf w) (entryOf (workersOf (now (log .entry))) w) (now (out .entry)) ⌝ }
+// Writes the entry of worker w, whose events begin at `start` and its checkpoints right behind them.
+pub fn write_entry(w: usize, start: usize, events: u32, checkpoints: u32, role: u32, out: &mut [u8])
+    requires { ⌜ (w < maxWorkers) × (headerOf (w + 1) ≤ length (now out)) × (start + 12 * events ≤ maxLength) ⌝ }
+    ensures out { λ _. ⌜ now (out .exit) ≡ overwrite (headerOf w) (entryBytes start events checkpoints role) (now (out .entry)) ⌝ }
 {
-    let behind = start + log::events_part(log, w).len();
-    let numbers = [
-        log::event_count(log, w),
-        start as u32,
-        log::checkpoint_count(log, w),
-        behind as u32,
-        log::role_of(log, w),
-    ];
+    let behind = start + records::EVENT_SIZE * (events as usize);
+    let numbers = [events, start as u32, checkpoints, behind as u32, role];
     write_numbers(numbers, out, log::header_of(w as u32));
 }
 
@@ -115,7 +110,9 @@ fn write_entries(log: &[u8], out: &mut [u8])
     let mut start = log::header_of(n as u32);
     let mut w: usize = 0;
     while w < n {
-        write_entry(log, w, start, out);
+        let events = log::event_count(log, w);
+        let checkpoints = log::checkpoint_count(log, w);
+        write_entry(w, start, events, checkpoints, log::role_of(log, w), out);
         start += sections_size(log, w);
         w += 1;
     }
@@ -165,7 +162,7 @@ pub fn pack(log: &[u8], others: u32, out: &mut [u8]) -> Packed
         };
     }
     let size = packed_length(log);
-    write_fields(log, size, out);
+    write_fields(log::form_field(log), log::worker_count(log), size, out);
     write_entries(log, out);
     write_sections(log, out);
     Packed {

@@ -7,7 +7,7 @@ use native.Mathlib.Nat.{le-antisymm}
 use borrow.Author.Needs.{needs}
 use Rattle.log.specs.Layout.{workersOf}
 use Rattle.pack.specs.Packed.{startOf, packedLength}
-use Rattle.pack.proofs.Writing.{start-first, start-next, next-fits}
+use Rattle.pack.proofs.Writing.{start-first, start-next, limited, next-fits}
 use Rattle.pack.proofs.packed_length.Statement.{statement}
 use Rattle.pack.proofs.packed_length.Tie as tie
 
@@ -32,7 +32,7 @@ add-at : tie.Need-add-at Inv-loop μ-loop
 add-at c =
     let turn = c .before .before in
     let start = turn .before .before .before .before in
-    next-fits _ (start .pre) (rw (turn .before .before .worker-count .ensures .0) at (c .before .loop-test .taken)) (turn .loop .inv .1) (c .sections-size .ensures)
+    next-fits (limited _ (start .pre)) (rw (turn .before .before .worker-count .ensures .0) at (c .before .loop-test .taken)) (turn .loop .inv .1) (c .sections-size .ensures)
 
 add-w : tie.Need-add-w Inv-loop μ-loop
 add-w c = omega (arith, c .before .before .before .before .worker-count .ensures .1)

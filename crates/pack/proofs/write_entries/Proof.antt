@@ -5,9 +5,9 @@ use Prim.Native.Nat.{_-_}
 use native.Mathlib.Omega.{arith}
 use borrow.Author.Needs.{needs}
 use Rattle.log.specs.Layout.{headerOf, workersOf}
-use Rattle.pack.specs.Packed.{startOf, entryOf}
+use Rattle.pack.specs.Packed.{startOf, numbersOf, entryOf}
 use Rattle.pack.proofs.Header.{entries-long}
-use Rattle.pack.proofs.Writing.{Written, written-none, written-more, written-end, room-same, start-first, start-next, next-fits, header-within}
+use Rattle.pack.proofs.Writing.{Written, written-none, written-more, written-end, start-first, start-next, limited, next-fits, header-within, entry-within}
 use Rattle.pack.proofs.write_entries.Statement.{statement}
 use Rattle.pack.proofs.write_entries.Tie as tie
 
@@ -28,40 +28,45 @@ loop-holds c = (c .header-of .ensures ∙ rw (c .before .worker-count .ensures .
 
 write-entry-requires : tie.Need-write-entry-requires Inv-loop μ-loop
 write-entry-requires c κs =
-    let turn = c .before .before in
-    let start = turn .before .before .before .before .before in (
-      room-same (start .pre) (turn .loop .inv .1 .long),
-      rw (turn .before .before .worker-count .ensures .0) at (c .before .loop-test .taken),
-      turn .loop .inv .0,
+    let turn = c .before .before .before .before .before in
+    let start = turn .before .before .before .before .before in
+    let h = rw (turn .before .before .worker-count .ensures .0) at (c .before .before .before .before .loop-test .taken) in
+    let within = entry-within (workersOf (start .args .log .now)) (turn .loop .w) h in (
+      omega (arith, turn .before .before .worker-count .ensures .1, c .before .before .before .before .loop-test .taken),
+      omega (arith, start .pre .enough, turn .loop .inv .1 .long, within .0),
+      rw (turn .loop .inv .0, c .before .before .before .event-count .ensures .0) (omega (arith, start .pre .fits, within .1)),
     )
 
 sections-size-requires : tie.Need-sections-size-requires Inv-loop μ-loop
 sections-size-requires c κs =
-    let turn = c .before .before .before .before .before in
-    (turn .before .before .before .before .before .pre .layout, rw (turn .before .before .worker-count .ensures .0) at (c .before .before .before .before .loop-test .taken))
+    let turn = c .before .before .before .before .before .before .before .before in
+    (turn .before .before .before .before .before .pre .layout, rw (turn .before .before .worker-count .ensures .0) at (c .before .before .before .before .before .before .before .loop-test .taken))
 
 add-start : tie.Need-add-start Inv-loop μ-loop
 add-start c =
-    let turn = c .before .before .before .before .before .before in
+    let turn = c .before .before .before .before .before .before .before .before .before in
     let start = turn .before .before .before .before .before in
-    next-fits _ (start .pre .layout) (rw (turn .before .before .worker-count .ensures .0) at (c .before .before .before .before .before .loop-test .taken))
+    next-fits (limited _ (start .pre .layout)) (rw (turn .before .before .worker-count .ensures .0) at (c .before .before .before .before .before .before .before .before .loop-test .taken))
     (turn .loop .inv .0) (c .sections-size .ensures)
 
 add-w : tie.Need-add-w Inv-loop μ-loop
-add-w c = omega (arith, c .before .before .before .before .before .before .before .before .worker-count .ensures .1)
+add-w c = omega (arith, c .before .before .before .before .before .before .before .before .before .before .before .worker-count .ensures .1)
 
 loop-less : tie.Need-loop-less Inv-loop μ-loop
 loop-less c = omega arith
 
 loop-again : tie.Need-loop-again Inv-loop μ-loop
+unfolding entryOf numbersOf
 loop-again c =
-    let turn = c .before .before .before .before .before .before in
+    let read = c .before .before .before .before .before in
+    let turn = read .before .before .before .before in
     let start = turn .before .before .before .before .before in
     let within = header-within (workersOf (start .args .log .now)) in
-    let long = entries-long (workersOf (start .args .log .now)) (turn .loop .w) in (
+    let long = entries-long (workersOf (start .args .log .now)) (turn .loop .w) in
+    let wrote = rw (read .role-of .ensures .0, read .before .checkpoint-count .ensures .0, read .before .before .event-count .ensures .0, turn .loop .inv .0)
+    at (c .before .before .before .write-entry .ensures) in (
       rw (turn .loop .inv .0, c .sections-size .ensures) (sym (start-next _ _)),
-      written-more (turn .loop .inv .1) (c .before .before .before .before .before .loop-test .taken) (omega (arith, start .pre .enough)) (omega arith)
-          (c .before .before .before .write-entry .ensures) (c .before .before .out .given),
+      written-more (turn .loop .inv .1) (read .before .before .before .loop-test .taken) (omega (arith, start .pre .enough)) (omega arith) wrote (c .before .before .out .given),
     )
 
 same-length : tie.Need-same-length Inv-loop μ-loop
@@ -73,5 +78,4 @@ returns c = written-end (c .before .loop .inv .1) (c .loop-test .left) (c .befor
 pub write-entries-spec : {M : Type 1} → statement M
 write-entries-spec =
     tie.close
-    (tie.spec Inv-loop μ-loop worker-count-requires cast-header-of (λ c κs. search needs) loop-holds write-entry-requires sections-size-requires add-start add-w loop-less
-    loop-again same-length returns)
+    (tie.spec Inv-loop μ-loop worker-count-requires cast-header-of (λ c κs. search needs) loop-holds (λ c κs. search needs) (λ c κs. search needs) (λ c κs. search needs) write-entry-requires sections-size-requires add-start add-w loop-less loop-again same-length returns)
