@@ -37,7 +37,14 @@ pub fn read4(s: &[u8], at: usize) -> u32
     wide(s, at) + 256 * wide(s, at + 1) + 65536 * wide(s, at + 2) + 16777216 * wide(s, at + 3)
 }
 
-// Writes a number to 2 and to 4 bytes.
+// Writes a number to 1, to 2 and to 4 bytes.
+pub fn write1(out: &mut [u8], at: usize, x: u8)
+    requires { ⌜ at + 1 ≤ length (now out) ⌝ }
+    ensures bytes { λ _. ⌜ now (out .exit) ≡ overwrite at (bytesOf 1 x) (now (out .entry)) ⌝ }
+{
+    out[at] = x;
+}
+
 pub fn write2(out: &mut [u8], at: usize, x: u32)
     requires { ⌜ at + 2 ≤ length (now out) ⌝ }
     ensures bytes { λ _. ⌜ now (out .exit) ≡ overwrite at (bytesOf 2 x) (now (out .entry)) ⌝ }

@@ -2,6 +2,7 @@ pub mod Any
 pub mod Bools
 pub mod First
 pub mod Join
+pub mod Keep
 pub mod Max
 pub mod Order
 pub mod Powers

@@ -43,6 +43,11 @@ unfoldable pub tabulate {ℓ} : {A : Type ℓ} → (ℕ → A) → ℕ → List 
 tabulate f zero = []
 tabulate f (suc n) = tabulate f n ++ (f n ∷ [])
 
+-- f k for each k below n of which p holds, in order
+unfoldable pub keepBelow {ℓ} : {A : Type ℓ} → (ℕ → Bool) → (ℕ → A) → ℕ → List A
+keepBelow p f zero = []
+keepBelow p f (suc n) = cond (p n) (keepBelow p f n ++ (f n ∷ [])) (keepBelow p f n)
+
 -- the lists f 0, .., f (n - 1), one after the other
 unfoldable pub joinBelow : (ℕ → List ℕ) → ℕ → List ℕ
 joinBelow f zero = []

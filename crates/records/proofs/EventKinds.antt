@@ -4,7 +4,7 @@ use mathlib.Core.Path.{_≡_, refl, sym, _∙_, ap}
 use mathlib.Core.Bool.{Bool, true, false, cond, _||_, false≢true}
 use mathlib.Core.List.{List}
 use mathlib.Core.Logic.{_⊎_, _≢_, ⊎-elim}
-use Prim.Native.Nat.{ℕ, _<_}
+use Prim.Native.Nat.{ℕ, _+_, _<_}
 use native.Mathlib.Omega.{arith}
 use borrow.Author.Tests.{eqb-true, eqb-false, ne-eqb}
 use lib.Dec.{eqb}
@@ -14,7 +14,7 @@ use Rattle.ranges.proofs.Tabulate.{getD-tabulate}
 use Rattle.records.specs.declared.Kind.{Kind}
 use Rattle.records.specs.declared.Kind.the-variants.{Send, Unlogged, Logged, Rest}
 use Rattle.records.specs.declared.Event.{Event}
-use Rattle.records.specs.Kind.{kindNumber, kindOf, isKind, recordTable, KindTable}
+use Rattle.records.specs.Kind.{kindNumber, kindOf, isKind, column, recordTable, KindTable}
 use Rattle.records.specs.Event.{noEvent, isSend, isUnlogged, isLogged, isReceive}
 
 -- ---- the record table
@@ -71,6 +71,13 @@ number-small Send = omega arith
 number-small Unlogged = omega arith
 number-small Logged = omega arith
 number-small Rest = omega arith
+
+-- one more than its column
+pub column-number : (kind : Kind) → column kind + 1 ≡ kindNumber kind
+column-number Send = refl
+column-number Unlogged = refl
+column-number Logged = refl
+column-number Rest = refl
 
 -- ---- kinds beside each other
 -- no event is neither a send nor a receive

@@ -10,7 +10,11 @@ firstForm = 1
 abbrev pub secondForm : ℕ
 secondForm = 2
 
--- the forms that there are
+-- Note 9: "an interval log: form 3", which is none of the forms that a call takes
+abbrev pub thirdForm : ℕ
+thirdForm = 3
+
+-- the forms that a call takes
 unfoldable pub isForm : ℕ → Bool
 isForm form = eqb form firstForm || eqb form secondForm
 

@@ -5,7 +5,7 @@ ghost use mathlib.Core.Path.{_≡_};
 ghost use Prim.Native.Nat.{_+_, _*_, _≤_};
 ghost use lib.ListN.{length, getD};
 ghost use Rattle.records.specs.Forms.{isForm, marksWithdrawn, receivesOnce};
-ghost use Rattle.records.specs.Kind.{column, recordTable};
+ghost use Rattle.records.specs.Kind.{kindNumber, column, recordTable};
 ghost use Rattle.records.specs.Mark.{hasMark, withoutMark};
 ghost use Rattle.records.specs.Event.{noEvent, isSend, isUnlogged, isReceive, received, unloggedSend, kindByte, eventRecord};
 ghost use Rattle.records.specs.Checkpoint.{initial, checkpointRecord};
@@ -14,6 +14,9 @@ ghost use Rattle.records.specs.Checkpoint.{initial, checkpointRecord};
 const FIRST_FORM: u32 = 1;
 
 const SECOND_FORM: u32 = 2;
+
+// The form of an interval log, which no call takes.
+pub const THIRD_FORM: u32 = 3;
 
 // The bytes of a record.
 pub const EVENT_SIZE: usize = 12;
@@ -210,6 +213,13 @@ pub fn column(kind: Kind) -> u32
         Kind::Logged => 2,
         Kind::Rest => 3,
     }
+}
+
+// The number of a kind, which is the byte that a record has for it. That of the rest is the number of no kind.
+pub fn kind_number(kind: Kind) -> u8
+    ensures answer { λ r. ⌜ r ≡ kindNumber kind ⌝ }
+{
+    (column(kind) + 1) as u8
 }
 
 // A number above every index.
