@@ -1,4 +1,4 @@
--- What every call of document 01 on a log returns and leaves, over what it is given of the log: the definitions of the calls side by side.
+-- What every call on a log but packing returns and leaves, over what it is given of the log: the definitions of the calls side by side.
 -- The contracts of src/lib.rt cite them from here, so that one equation between two logs moves what all of them say.
 -- Assumes nothing.
 use mathlib.Core.Path.{_≡_}
@@ -8,6 +8,7 @@ use Rattle.lent.specs.Lent.{Left}
 use Rattle.log.specs.Layout.{workersOf, logOf}
 use Rattle.accept.specs.Refusal.{Given, given, logRefusal}
 use Rattle.pack.specs.Calls.{packCall}
+use Rattle.interval_refusals.specs.Calls.{intervalsCall}
 use Rattle.causality.specs.Calls.{vectorCall, cutTestCall}
 use Rattle.lower_cut.specs.Calls.{lowerCutCall}
 use Rattle.upper_line.specs.Calls.{upperLineCall}
@@ -17,6 +18,7 @@ use Rattle.replay_machine.specs.Calls.{stepCall, stepsCall, restoreCall}
 
 -- of each call, what it returns and leaves for all that it is asked and lent besides the log
 pub record Answers : Type 0 where
+  pub ofIntervals : List ℕ → List ℕ → Left
   pub ofVector : ℕ → ℕ → List ℕ → Left
   pub ofUpperLine : ℕ → ℕ → List ℕ → Left
   pub ofLowerCut : ℕ → ℕ → List ℕ → ℕ → List ℕ → Left
@@ -30,6 +32,7 @@ pub record Answers : Type 0 where
 abbrev pub answersTo : Given → Answers
 answersTo log =
     record {
+      ofIntervals = intervalsCall log;
       ofVector = vectorCall log;
       ofUpperLine = upperLineCall log;
       ofLowerCut = lowerCutCall log;
@@ -42,7 +45,7 @@ answersTo log =
     }
 
 -- "Cuts, plans and steps have the same definitions over both forms": two accepted logs with equal workers, whatever their forms, get the
--- same answers from every call of document 01
+-- same answers from every call but packing, the same interval log among them
 abbrev pub SameAnswers : List ℕ → List ℕ → Type 0
 SameAnswers s t = logRefusal s ≡ 0 → logRefusal t ≡ 0 → workersOf s ≡ workersOf t → answersTo (given s) ≡ answersTo (given t)
 

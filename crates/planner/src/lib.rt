@@ -15,6 +15,7 @@ ghost use Rattle.repeats.specs.Repeats.{ReceivedOnce, ReceivedTwice};
 ghost use Rattle.accept.specs.Refusal.{logRefusal, given};
 ghost use Rattle.pack.specs.Calls.{packCall};
 ghost use Rattle.pack.specs.Archive.{Archived};
+ghost use Rattle.intervals.specs.Converted.{Converted};
 ghost use Rattle.causality.specs.Calls.{TellsConsistent};
 ghost use Rattle.covering.specs.Covering.{CoversWhenStartable};
 ghost use Rattle.covering.specs.Withdrawn.{CoversNoneWithdrawn};
@@ -53,6 +54,23 @@ pub extern "C" fn pack(log: &[u8], out: &mut [u8], written: &mut [u64]) -> u32
         return refusal;
     }
     written[0] = packed.written;
+    0
+}
+
+// Writes the interval log of an accepted log into lent bytes, and the number of bytes written to the first word of `written`.
+#[no_mangle]
+pub extern "C" fn intervals(log: &[u8], out: &mut [u8], written: &mut [u64]) -> u32
+    ensures left { λ r. ⌜ left r (now (out .exit) ∷ now (written .exit) ∷ [])
+        ≡ answersTo (given (now (log .entry))) .ofIntervals (now (out .entry)) (now (written .entry)) ⌝ }
+    ensures converted { λ r. ⌜ (r ≡ 0 → Converted (now (log .entry)) (take (at (now (written .exit)) 0) (now (out .exit)))) ⌝ }
+{
+    let others = lent::words_refusal(written.len(), 1);
+    let converted = interval_log::intervals(log, others, out);
+    let refusal = converted.refusal;
+    if refusal != 0 {
+        return refusal;
+    }
+    written[0] = converted.written;
     0
 }
 

@@ -1,0 +1,3 @@
+pub mod Allowed
+pub mod Staying
+pub mod Pieces

@@ -1,0 +1,4 @@
+pub mod IntervalModel
+pub mod LeastClosed
+pub mod Conversion
+pub mod TubeIntervals

@@ -1,0 +1,3 @@
+pub mod Interval
+pub mod IntervalCut
+pub mod Converted
