@@ -33,9 +33,10 @@ where the case is refused they are fillers. The identifier of a covering set is 
 a withdrawn checkpoint in way 5, a 1 with the mark in way 6, and k - 1 in each other way k. The unit table of a plan is
 IN_WAY[k]; in ways 0, 1 and 9 it is one that does not load. In way 6 both calls of a plan are made again, with one that does not.
 
-`pack` is called in ways 4 to 9 alone, and in way 7 with no byte lent. It is lent bytes for the packed log, as many as the log
-has where that is refused, but never more than ROOM. Ways 6 and 8, in which it writes, are left out where the packed log has more
-than SHOWN bytes, so that the output does not have them; ways 4 and 5 test its length.
+`pack` and `intervals` are called in ways 4 to 9 alone, and in way 7 with no byte lent. They are lent bytes for the packed log and for
+the interval log, as many as the log has where that is refused, but never more than ROOM. Ways 6 and 8, in which they write, are left
+out where what they write has more than SHOWN bytes, so that the output does not have them; ways 4 and 5 test its length. Where two
+checkpoints fall into one interval, `intervals` is lent bytes for the interval log that it refuses to write.
 """
 
 import itertools
@@ -49,7 +50,7 @@ MAX_WORKERS = reference.MAX_WORKERS
 CALLS = 24
 NAMES = (
     "log_refusal", "vector", "upper_line", "covers", "cut_test", "step", "steps", "lower_cut", "plan", "restore", "pack",
-    "load_table", "built_in")
+    "load_table", "built_in", "intervals")
 LINE = CALLS
 ENTRIES = LINE + 1
 
@@ -83,11 +84,12 @@ FILLER = 900000
 ALL_TOTALS = 5
 FOR_ANSWER = 8
 
-# The bytes that there are to lend, and those of the longest packed log that the output has.
+# The bytes that there are to lend, and those of the longest packed log or interval log that the output has.
 ROOM = 65536
 SHOWN = 10000
 
-# The kinds of words: of a cut, a line or a plan; scratch; positions; answers; totals. The last kind is the bytes of a packed log.
+# The kinds of words: of a cut, a line or a plan; scratch; positions; answers; totals. The last kind is the bytes of a log that is
+# written.
 # The ways with just enough, with no byte, with 8 more than needed, and with one too few of each kind.
 OF_CUT, OF_SCRATCH, OF_POSITIONS, OF_ANSWERS, OF_TOTALS, OF_BYTES = range(6)
 ENOUGH, NO_BYTE, MORE, FEW = range(6, 10)
@@ -141,9 +143,11 @@ def size(log):
     return 1 if reference.refusal(log) else reference.read(log).n
 
 
-def packed_length(log):
-    """The number of bytes of the packed log; of the log itself, but at least 1, where it is refused."""
-    return max(1, len(log)) if reference.refusal(log) else len(reference.packed(reference.read(log)))
+def written_length(log, name):
+    """The number of bytes of the packed log or of the interval log; of the log itself, but at least 1, where it is refused."""
+    if reference.refusal(log):
+        return max(1, len(log))
+    return len(reference.packed(reference.read(log)) if name == "pack" else reference.interval_bytes(log))
 
 
 def lent(needed, kind, way):
@@ -253,7 +257,8 @@ class Calls:
         self.put_list(way, 8 * (self.n + 2))
         self.lend(ANSWERS, 8 * (self.n + 2), OF_ANSWERS, way)
         self.make("steps")
-        self.add_pack(way)
+        for name in ("pack", "intervals"):
+            self.add_writer(name, way)
 
     def add_tests(self, way):
         self.put(READ_AT, self.words.cut)
@@ -282,13 +287,13 @@ class Calls:
         self.lend(POSITIONS, self.n, OF_POSITIONS, way)
         self.lend(ANSWERS, count * (self.n + 1), OF_ANSWERS, way)
 
-    def add_pack(self, way):
-        length = packed_length(self.log)
+    def add_writer(self, name, way):
+        length = written_length(self.log, name)
         if way < OF_TOTALS or way in (ENOUGH, MORE) and length > SHOWN:
             return
         self.put(BYTES, [0 if way == NO_BYTE else lent(length, OF_BYTES, way)])
         self.lend(TOTALS, 1, OF_TOTALS, way)
-        self.make("pack")
+        self.make(name)
 
     def put_table(self, table):
         self.put(TABLE_AT, table)

@@ -8,9 +8,9 @@ after = what it returned:
 A changed word has its kind, its number and what it holds after the call. The kinds are w, of a line, a cut or a plan, the
 answer of a test, positions after steps, or the built-in table, whose call is `built_in`; p, positions, and a, answers, of a list
 of steps; s, scratch, of a call that is refused, and g, the words behind it, of any other: after a success what is lent is free. The
-lower cut, the plan and `restore`, which is `restore_and_replay`, have their totals; 999 is one not written. So does `pack`, whose
-total is the bytes written; before it stand the bytes after `out:`, in hexadecimal, where one of them was changed: those lent and PAST
-more. A byte not written is a5.
+lower cut, the plan and `restore`, which is `restore_and_replay`, have their totals; 999 is one not written. So do `pack` and
+`intervals`, whose total is the bytes written; before it stand the bytes after `out:`, in hexadecimal, where one of them was changed:
+those lent and PAST more. A byte not written is a5.
 """
 
 import reference
@@ -119,10 +119,16 @@ class Made:
         replayed = changes("p", positions, after) + changes("a", answers, left)
         return number, replayed + changes("w", words, plan) + totals_text(totals)
 
-    def pack(self, _):
+    def writer(self, call):
         lent = GUARD * min(self.numbers[BYTES], ROOM)
-        number, after, written = reference.pack_call(self.log, lent, self.part_of_totals())
+        number, after, written = call(self.log, lent, self.part_of_totals())
         return number, bytes_text(lent, after) + totals_text(written)
+
+    def pack(self, _):
+        return self.writer(reference.pack_call)
+
+    def intervals(self, _):
+        return self.writer(reference.intervals_call)
 
 
 def case_lines(name, content, extra):

@@ -6,8 +6,10 @@
 
 A case file is an input of the program `plan`: worker, event, then the log. Each case below states its name, the number
 by which document 01, "Refused by the input", or document 02, form 2, refuses its log (0: accepted), and the log. The number
-is written by hand, and reference.py must give the same. So are the covering sets, where a case states them. The calls are those
-of calls.py, the expected output is that of expected.py.
+is written by hand, and reference.py must give the same. So are the covering sets, where a case states them. The interval log of
+each accepted log, of one that 28 refuses too, is held to document 02, note 9: its least closed cut for each event has the receives
+within the event's lower cut. Of a log of more than 500 events only the case's breakpoint is tried. The calls are those of calls.py,
+the expected output is that of expected.py.
 """
 
 import os
@@ -26,6 +28,9 @@ CRATE = os.path.join(os.path.dirname(os.path.abspath(__file__)), "..", "crates",
 
 # The largest input of `plan`.
 LARGEST = 65536
+
+# The most events of a log of which each is tried as a breakpoint.
+MOST_TRIED = 500
 
 # The content of each case, by its name, in the order in which they are run; and the line of this script that makes it.
 CONTENT = {}
@@ -48,6 +53,17 @@ def check_sets(name, log, covering):
     assert covering in (None, found), "%s: covering sets %r by the reference" % (name, found)
 
 
+def check_interval_cuts(name, log, worker, event):
+    """The least closed cut of the interval log for every event; where the log has more than MOST_TRIED, for the breakpoint alone, if it
+    is one of them."""
+    accepted, content = reference.read(log), reference.interval_bytes(log)
+    tried = accepted.every_event()
+    if len(tried) > MOST_TRIED:
+        tried = [at for at in tried if at == (worker, event)]
+    for i, e in tried:
+        reference.check_interval_cut(accepted, content, i, e, name)
+
+
 def case(name, number, log, worker=0, event=1, covering=None):
     """A case. Its log is refused by the number; covering: those of IDENTIFIERS that cover, rising."""
     content = case_file(worker, event, log)
@@ -57,6 +73,7 @@ def case(name, number, log, worker=0, event=1, covering=None):
     assert reference.refusal(log) == number, "%s: %d by the reference" % (name, reference.refusal(log))
     if number == 0:
         check_sets(name, log, covering)
+        check_interval_cuts(name, log, worker, event)
     CONTENT[name] = content
     LINE[name] = line_being_run()
 
@@ -1231,6 +1248,226 @@ for many in (1, 15, 16, 17, 32, 33, 61):
 
 # no event of one worker is accepted: 13
 case("one_worker_event_1", 0, build(without_events(1)), event=1)
+
+# ---- Logs in state intervals: "only the receives, with peer event replaced by the number of receives in the sender before that send,
+# and checkpoint indices by the receives up to them; withdrawn checkpoints are dropped". A log whose interval log is given 26 is too long
+# for an input of `plan`: reference.py --check and the Rust tests have such logs.
+
+
+def converted(workers, named, intervals):
+    """The interval log of these workers, from what was worked out by hand: of each worker the intervals that its receives name, and
+    those of its checkpoints; None for one that is withdrawn."""
+    made = []
+    for worker, names, at in zip(workers, named, intervals, strict=True):
+        receives = [event for event in worker.events if event[0] != "send"]
+        events = [(kind, peer, name, stamp) for (kind, peer, _, stamp), name in zip(receives, names, strict=True)]
+        checkpoints = [(k, c[1]) for c, k in zip(worker.checkpoints, at, strict=True) if k is not None]
+        made.append(Worker(worker.role, events, checkpoints))
+    return build(made, form=3)
+
+
+def interval_case(name, workers, named, intervals, worker, event, cut, form=1, places=None, fields=None):
+    """A case whose interval log, and its least closed cut for the breakpoint, were worked out by hand."""
+    log = build(workers, places, fields, form)
+    case(name, 0, log, worker, event)
+    wanted = converted(workers, named, intervals)
+    number, content, written = reference.intervals_call(log, bytes(len(wanted)), [0])
+    assert (number, content, written) == (0, wanted, [len(wanted)]), name + " has another interval log by the reference"
+    held = sum(e[0] != "send" for e in workers[worker].events[:event])
+    found = reference.least_closed(content, worker, held)
+    assert cut in (None, found), "%s: interval cut %r by the reference" % (name, found)
+
+
+def crowded_case(name, log, worker=0, event=1):
+    """A case that 28 refuses, whatever is lent."""
+    case(name, 0, log, worker, event)
+    found = [reference.intervals_call(log, bytes(lent), words)[0] for lent in (0, len(log)) for words in ([], [0])]
+    assert found == [28] * 4, "%s: %r by the reference" % (name, found)
+
+
+# the tube log: the receives of worker 0 name intervals 0 and 1, those of worker 1 intervals 0 and 2, that of worker 2 interval 0
+TUBE_INTERVALS = build([
+    Worker(3, [("receive", 2, 0, 2), ("receive", 1, 1, 5)], [(1, 1)]),
+    Worker(1, [("receive", 2, 0, 3), ("receive", 0, 2, 7)], [(0, 1)]),
+    Worker(0, [("receive", 1, 0, 3)], [(0, 1)]),
+], form=3)
+assert reference.interval_bytes(tube()) == reference.interval_bytes(in_form(tube(), 2)) == TUBE_INTERVALS
+assert reference.least_closed(TUBE_INTERVALS, 0, 2) == [2, 1, 0]
+# "Our own calls refuse form 3 by 2"
+case("interval_log_of_the_tube_log", 2, TUBE_INTERVALS, worker=0, event=2)
+
+# sends in interval 0, right behind a receive, and as the last event of their worker; receives of both kinds. A checkpoint of worker 0 is
+# at index 0, one at a receive, one at its last event; those of worker 1 are at a send and at its last event, a receive
+IN_TURN = [
+    Worker(2, [("send", 1, 1), ("receive", 1, 1, 2), ("send", 1, 3), ("logged", 1, 3, 5), ("send", 1, 6)], [(0, 1), (2, 3), (5, 4)]),
+    Worker(1, [("send", 0, 1), ("receive", 0, 1, 2), ("send", 0, 3), ("receive", 0, 3, 4), ("logged", 0, 5, 7)], [(1, 1), (5, 2)]),
+]
+IN_TURN_NAMED = [[0, 1], [0, 1, 2]]
+IN_TURN_AT = [[0, 1, 2], [0, 3]]
+# every breakpoint: a send, a receive of either kind, in interval 0 and behind it
+for worker, event, cut in (
+    (0, 1, [0, 0]), (0, 2, [1, 0]), (0, 3, [1, 0]), (0, 4, [2, 1]), (0, 5, [2, 1]),
+    (1, 1, [0, 0]), (1, 2, [0, 1]), (1, 3, [0, 1]), (1, 4, [1, 2]), (1, 5, [2, 3]),
+):
+    interval_case("intervals_in_turn_%d_%d" % (worker, event), IN_TURN, IN_TURN_NAMED, IN_TURN_AT, worker, event, cut)
+# the same workers in form 2, and with the sections elsewhere and gaps between them, in both forms: the same bytes
+IN_TURN_PLACES = [1, ("checkpoints", 1), ("events", 1), 12, ("events", 0), 8, ("checkpoints", 0), 5]
+interval_case("intervals_in_turn_in_form_2", IN_TURN, IN_TURN_NAMED, IN_TURN_AT, 1, 5, [2, 3], form=2)
+interval_case("intervals_in_turn_in_another_order", IN_TURN, IN_TURN_NAMED, IN_TURN_AT, 1, 5, [2, 3], places=IN_TURN_PLACES)
+interval_case("intervals_in_turn_in_another_order_in_form_2", IN_TURN, IN_TURN_NAMED, IN_TURN_AT, 1, 5, [2, 3], form=2,
+    places=IN_TURN_PLACES)
+# the kinds exchanged: nothing else is another byte
+interval_case("intervals_in_turn_with_kinds_exchanged", [
+    Worker(worker.role, [({"receive": "logged", "logged": "receive"}.get(e[0], e[0]),) + e[1:] for e in worker.events], worker.checkpoints)
+    for worker in IN_TURN
+], IN_TURN_NAMED, IN_TURN_AT, 1, 5, [2, 3])
+
+# form 1: worker 0 receives one send three times, and worker 1 receives events 7, 3, 1, 3 and 7 of it, so that its first receive names the
+# largest interval, and the next ones smaller ones
+AGAIN_AND_FALLING = [
+    Worker(0, [
+        ("send", 1, 1), ("receive", 1, 1, 2), ("send", 1, 3), ("receive", 1, 1, 4), ("logged", 1, 1, 5), ("send", 1, 6), ("send", 1, 7),
+    ]),
+    Worker(3, [("send", 0, 1)] + [
+        ("logged" if stamp == 11 else "receive", 0, send, stamp) for stamp, send in zip(range(8, 13), (7, 3, 1, 3, 7))
+    ]),
+]
+for event, cut in ((1, [0, 0]), (2, [3, 1]), (4, [3, 3]), (6, [3, 5])):
+    interval_case("intervals_of_repeats_and_falling_sends_1_%d" % event, AGAIN_AND_FALLING, [[0, 0, 0], [3, 1, 0, 1, 3]], [[], []],
+        1, event, cut)
+# worker 2 receives from worker 1 a send behind a receive from worker 0: the cut of worker 2 reaches worker 0 over worker 1
+interval_case("intervals_over_two_workers", [
+    Worker(0, [("receive", 1, 1, 2), ("receive", 1, 2, 3), ("send", 1, 4), ("receive", 1, 5, 8)], [(2, 9)]),
+    Worker(1, [("send", 0, 1), ("send", 0, 2), ("receive", 0, 3, 5), ("send", 2, 6), ("send", 0, 7)], [(4, 1)]),
+    Worker(2, [("receive", 1, 4, 7), ("send", 0, 8)], [(0, 1), (2, 2)]),
+], [[0, 0, 1], [2], [1]], [[2], [1], [0, 1]], 2, 2, [2, 1, 1])
+
+# no receives: nothing but the header and a checkpoint of interval 0, which the initial state does not count beside
+interval_case("intervals_without_receives", [
+    Worker(1, [("send", 1, 1), ("send", 2, 2)], [(2, 5)]), Worker(2, [("send", 0, 1)], [(0, 1)]), Worker(3),
+], [[], [], []], [[0], [0], []], 0, 2, [0, 0, 0])
+# n is 1: the interval log of header_is_the_log_of_1_worker has 28 bytes; with one checkpoint it has 36
+assert len(reference.interval_bytes(build(without_events(1)))) == 28
+case("intervals_of_one_worker_with_a_checkpoint", 0, build([Worker(3, [], [(0, 7)])]), event=0)
+assert reference.interval_bytes(build([Worker(3, [], [(0, 7)])])) == build([Worker(3, [], [(0, 7)])], form=3)
+case("intervals_of_one_worker_with_a_withdrawn_checkpoint", 0, build([Worker(3, [], [marked(0, 7), (0, 9)])], form=2), event=0)
+assert reference.interval_bytes(build([Worker(3, [], [marked(0, 7), (0, 9)])], form=2)) == build([Worker(3, [], [(0, 9)])], form=3)
+
+
+def one_receive(checkpoints, others=(), last=False):
+    """A worker whose third event of five is its one receive, the others being sends; the other worker has one send. It is the first
+    worker, or the last one."""
+    w, other = (1, 0) if last else (0, 1)
+    events = [("send", other, 1), ("send", other, 2), ("receive", other, 1, 3), ("send", other, 4), ("send", other, 5)]
+    workers = [Worker(w, events, checkpoints), Worker(other, [("send", w, 1)], others)]
+    return workers[::-1] if last else workers
+
+
+# in form 2 each withdrawn checkpoint is dropped, wherever it stands, and it counts beside none
+for name, checkpoints, at in (
+    ("a_withdrawn_checkpoint_before_one", [marked(0, 1), (1, 2)], [None, 0]),
+    ("a_withdrawn_checkpoint_after_one", [(1, 1), marked(2, 2)], [0, None]),
+    ("a_withdrawn_checkpoint_at_the_index_of_one", [(1, 1), marked(1, 2)], [0, None]),
+    ("withdrawn_checkpoints_alone", [marked(1, 1), marked(1, 2), marked(4, 3)], [None, None, None]),
+    ("withdrawn_checkpoints_between_two", [(0, 1), marked(2, 2), marked(3, 3), (5, 4)], [0, None, None, 1]),
+    ("withdrawn_checkpoints_around_two", [marked(0, 1), (2, 2), (3, 3), marked(4, 4)], [None, 0, 1, None]),
+):
+    interval_case("intervals_of_" + name, one_receive(checkpoints), [[0], []], [at, []], 0, 4, [1, 0], form=2)
+# an identifier with the top bit stays in form 1, as it is
+interval_case("intervals_of_identifiers_with_the_top_bit", one_receive([(2, MARK), (4, 2 * MARK - 1)], [(1, MARK + 1)]), [[0], []],
+    [[0, 1], [0]], 0, 4, [1, 0])
+
+# ---- 28: "two recorded checkpoints not withdrawn of one worker fall into one interval (the initial state isn't recorded and doesn't
+# count); it is tested after 24 and before 26". Where the ways lend too few bytes or no word, 28 is given too.
+
+# one in interval 0, at each index of it, and one with the receive between it and the next: accepted
+for name, checkpoints, at in (
+    ("one_at_index_0", [(0, 1)], [0]), ("one_right_before_the_receive", [(2, 1)], [0]), ("one_at_the_receive", [(3, 1)], [1]),
+    ("a_receive_between_two", [(2, 1), (3, 2)], [0, 1]), ("a_receive_between_the_first_and_the_last", [(0, 1), (5, 2)], [0, 1]),
+):
+    interval_case("intervals_of_" + name, one_receive(checkpoints), [[0], []], [at, []], 0, 3, [1, 0])
+for name, checkpoints in (
+    ("two_at_index_0", [(0, 1), (0, 2)]),
+    ("two_at_one_index", [(2, 1), (2, 2)]),
+    ("a_send_between_two", [(1, 1), (2, 2)]),
+    ("index_0_and_two_sends_later", [(0, 1), (2, 2)]),
+    ("the_receive_and_a_send_later", [(3, 1), (4, 2)]),
+    ("the_last_two_of_three", [(1, 1), (3, 2), (5, 3)]),
+    ("the_first_two_of_three", [(0, 1), (1, 2), (4, 3)]),
+    ("identifiers_with_the_top_bit", [(1, MARK + 1), (2, MARK + 2)]),
+    ("identifiers_that_differ_in_the_top_bit_alone", [(1, 1), (2, MARK + 1)]),
+):
+    crowded_case("crowded_" + name, build(one_receive(checkpoints)), event=3)
+    crowded_case("crowded_%s_of_the_last_worker" % name, build(one_receive(checkpoints, last=True)), worker=1, event=3)
+# in form 2: a withdrawn one between two others, at their index, at another one and of another interval
+for name, checkpoints in (
+    ("at_one_index", [(1, 1), marked(1, 2), (1, 3)]),
+    ("and_sends", [(0, 1), marked(1, 2), (2, 3)]),
+    ("behind_the_receive", [(3, 1), marked(3, 2), marked(4, 3), (5, 4)]),
+    ("after_one_before_the_receive", [(2, 1), marked(3, 2), (3, 3), (4, 4)]),
+):
+    crowded_case("crowded_with_a_withdrawn_one_between_" + name, build(one_receive(checkpoints), form=2), event=3)
+# the words of two cases that form 2 accepts: in form 1 they are not withdrawn
+crowded_case("crowded_in_form_1_alone", build(one_receive([(1, 1), marked(2, 2)])), event=4)
+crowded_case("crowded_in_form_1_alone_at_one_index", build(one_receive([(1, 1), marked(1, 2)])), event=4)
+# a worker without receives, and one without events: both checkpoints are in interval 0
+crowded_case("crowded_without_receives", build(one_receive([(3, 1)], others=[(0, 1), (1, 2)])), event=4)
+crowded_case("crowded_without_events", build(one_receive([(3, 1)]) + [Worker(2, [], [(0, 1), (0, 2)])]), event=4)
+# the receives of the other worker are none of this one's
+crowded_case("crowded_beside_a_worker_of_many_receives", build([
+    Worker(0, [("send", 1, 1), ("send", 1, 2), ("send", 1, 3)], [(1, 1), (3, 2)]),
+    Worker(1, [("receive", 0, 1, 4), ("receive", 0, 2, 5), ("receive", 0, 3, 6)], [(0, 1), (1, 2), (2, 3), (3, 4)]),
+]), worker=1, event=3)
+# one checkpoint in each of two workers, both in interval 0, is no fault
+interval_case("intervals_of_one_checkpoint_in_each_of_two_workers", one_receive([(1, 1)], [(1, 1)]), [[0], []], [[0], [0]], 0, 4, [1, 0])
+
+# a checkpoint after each of 40 receives; one more at the last receive, or at the send behind it
+FORTY = [("receive", 1, 1 + x % 7, 10 + x) for x in range(40)] + [("send", 1, 60)]
+FORTY_AT = [(x, x) for x in range(1, 41)]
+SEVEN = Worker(1, [("send", 0, x) for x in range(1, 8)])
+interval_case("intervals_of_40_receives_and_checkpoints", [Worker(0, FORTY, FORTY_AT), SEVEN], [[0] * 40, []], [range(1, 41), []],
+    0, 41, [40, 0])
+crowded_case("crowded_at_the_last_of_40_receives", build([Worker(0, FORTY, FORTY_AT + [(40, 99)]), SEVEN]), event=41)
+crowded_case("crowded_behind_the_last_of_40_receives", build([Worker(0, FORTY, FORTY_AT + [(41, 99)]), SEVEN]), event=41)
+
+# 24 is given before 28; form 1 permits the repeat
+REPEATED_AND_CROWDED = [Worker(0, TWICE, [(0, 1), (1, 2)]), Worker(1, SECOND, [(2, 1)])]
+case("24_before_28", 24, build(REPEATED_AND_CROWDED, form=2), event=3)
+crowded_case("28_of_the_same_log_in_form_1", build(REPEATED_AND_CROWDED), event=3)
+case("11_before_28", 11, build([Worker(0, FIRST, [(0, 1), (1, 2)]), Worker(1, SECOND, [(3, 1)])]), event=2)
+
+
+# ---- Interval logs of logs with many events: of more than 32,768 events and initial states together the program keeps the intervals at
+# every second, fourth or further event alone
+
+
+def many_events_case(name, sends, sharing, first, second):
+    """Workers 0 and 1, with so many events, exchange messages; each of the others has so many sends to worker 0, of the same bytes.
+
+    Worker 0 sends at events 1, 4, 7 and so on, worker 1 at the odd ones; the other events are receives. Event x of worker 0 names the
+    send of worker 1 behind its first (x + 1) / 4 receives, event x of worker 1 the send 3k + 1 of worker 0, where k is (x - 1) / 4.
+    """
+    workers = [
+        Worker(0, [
+            ("send", 1, 10 * x) if x % 3 == 1 else ("logged" if x % 2 else "receive", 1, 2 * ((x + 1) // 4) + 1, 10 * x)
+            for x in range(1, first + 1)
+        ], [(x, x + 1) for x in range(0, first + 1, 8)]),
+        Worker(1, [
+            ("send", 0, 10 * x - 5) if x % 2 else ("receive", 0, 3 * ((x - 1) // 4) + 1, 10 * x - 5) for x in range(1, second + 1)
+        ], [(x, x + 1) for x in range(0, second + 1, 16)]),
+    ] + [Worker(2, [("send", 0, x) for x in range(1, sends + 1)]) for _ in range(sharing)]
+    named = [(x + 1) // 4 for x in range(1, first + 1) if x % 3 != 1], [2 * ((x - 1) // 4) for x in range(2, second + 1, 2)]
+    at = [x - (x + 2) // 3 for x in range(0, first + 1, 8)], [x // 2 for x in range(0, second + 1, 16)]
+    none = [[]] * sharing
+    interval_case(name, workers, [*named, *none], [*at, *none], 0, first, None,
+        places=[("events", 2), ("events", 0), ("checkpoints", 1), ("events", 1), ("checkpoints", 0)],
+        fields={(w, "event offset"): 8 + 20 * (2 + sharing) for w in range(3, 2 + sharing)})
+
+
+# 16 × 2,041 + 56 + 56 events and initial states are 32,768; one event more; more than twice as many
+many_events_case("intervals_kept_at_each_event", 2040, 16, 55, 55)
+many_events_case("intervals_kept_at_every_second_event", 2040, 16, 56, 55)
+many_events_case("intervals_kept_at_every_fourth_event", 4200, 16, 130, 127)
 
 # ---- Unit tables: the cases on which each of those of calls.py is tried
 

@@ -1,14 +1,15 @@
 #!/usr/bin/env python3
-"""Document 01, and form 2, the packed logs, the covering test, the withdrawn checkpoints and the unit tables of document 02, written
-in Python from the definitions. The expected output of the stored cases comes from here.
+"""Document 01, and form 2, the packed logs, the covering test, the withdrawn checkpoints, the unit tables and the interval logs of
+document 02, written in Python from the definitions. The expected output of the stored cases comes from here.
 
     scripts/reference.py --check    the values T1 to T10, and on random small logs the definitions against brute force, the
                                     floor that covering sets give the starts (document 02, note 4), logs with withdrawn
-                                    checkpoints (note 6) against the same logs without these records, and plans with several
-                                    unit tables (note 7) against every rival
+                                    checkpoints (note 6) against the same logs without these records, plans with several
+                                    unit tables (note 7) against every rival, and the least closed cuts of interval logs
+                                    (note 9) against the lower cuts
 
-An event is named by its worker and its index, (w, x). A cut, a choice's starts and positions are lists of one number for
-each worker.
+An event is named by its worker and its index, (w, x). Interval k of a worker is its state after k of its receives. A cut, an
+interval cut, a choice's starts and positions are lists of one number for each worker.
 """
 
 import functools
@@ -26,6 +27,9 @@ SEND, UNLOGGED, LOGGED = 1, 2, 3
 # received at most once, and the top bit of an identifier word, MARK, marks a withdrawn checkpoint.
 FIRST_FORM, SECOND_FORM = FORMS = (1, 2)
 MARK = 2 ** 31
+
+# The form of an interval log. No call accepts it.
+INTERVAL_FORM = 3
 
 # The largest worker count of a log, and its most bytes.
 MAX_WORKERS = 64
@@ -206,6 +210,74 @@ def packed(log):
         body += b"".join(struct.pack("<II", c.index, c.identifier + MARK * c.withdrawn) for c in checkpoints)
         entries += struct.pack("<5I", len(events), event_offset, len(checkpoints), checkpoint_offset, role)
     return struct.pack("<HHI", log.form, log.n, header + len(body)) + entries + body
+
+
+# ---- The interval log
+
+
+def intervals_of(log, w):
+    """The interval of worker w after each of its events, from index 0 on: the receives among events 1..index."""
+    return list(itertools.accumulate((int(is_receive(event)) for event in log.events[w]), initial=0))
+
+
+def interval_log(log):
+    """Only the receives, each with the number of receives in the sender before that send in place of the send, and the checkpoints
+    that are not withdrawn, each with the receives up to it in place of its index."""
+    after = [intervals_of(log, w) for w in range(log.n)]
+    events = [
+        [event._replace(send=after[event.peer][event.send - 1]) for event in section if is_receive(event)]
+        for section in log.events
+    ]
+    checkpoints = [
+        [c._replace(index=after[w][c.index]) for c in log.checkpoints[w] if not c.withdrawn] for w in range(log.n)
+    ]
+    return Log(INTERVAL_FORM, log.roles, events, checkpoints)
+
+
+@functools.lru_cache(maxsize=None)
+def interval_bytes(data):
+    """The interval log of an accepted log, packed. Each is made one time."""
+    return packed(interval_log(read(data)))
+
+
+def is_crowded(log):
+    """28: two recorded checkpoints, not withdrawn, of one worker fall into one interval."""
+    for w in range(log.n):
+        after = intervals_of(log, w)
+        found = [after[c.index] for c in log.checkpoints[w] if not c.withdrawn]
+        if len(set(found)) < len(found):
+            return True
+    return False
+
+
+def named_intervals(data):
+    """Of each worker of an interval log, given as its bytes, the peer and the interval that each receive names."""
+    n, = struct.unpack_from("<H", data, 2)
+    sections = [struct.unpack_from("<II", data, 8 + 20 * w) for w in range(n)]
+    return [
+        [struct.unpack_from("<xBxxI", data, offset + 12 * k) for k in range(count)] for count, offset in sections
+    ]
+
+
+def is_closed(data, cut):
+    """Whether each receive within an interval cut names an interval within it."""
+    return all(
+        interval <= cut[peer] for w, named in enumerate(named_intervals(data)) for peer, interval in named[:cut[w]]
+    )
+
+
+def least_closed(data, i, m):
+    """The least closed interval cut that holds interval m of worker i: what a receive within it names is added until nothing is."""
+    named = named_intervals(data)
+    cut = [0] * len(named)
+    cut[i] = m
+    before = None
+    while cut != before:
+        before = list(cut)
+        for w in range(len(cut)):
+            for peer, interval in named[w][:before[w]]:
+                cut[peer] = max(cut[peer], interval)
+    return cut
 
 
 # ---- Happened before
@@ -429,16 +501,29 @@ def onto(new, words):
     return list(new) + list(words[len(new):])
 
 
+def write_log(content, out, written):
+    """What a call that writes these bytes of a log gives, or Refused."""
+    refuse_if(len(content) > MAX_BYTES, 26)
+    refuse_if(len(out) < len(content), 25)
+    refuse_if(len(written) < 1, 14)
+    return 0, content + out[len(content):], onto([len(content)], written)
+
+
 def pack_call(data, out, written):
     """Refusal, lent bytes, written."""
     try:
-        content = packed(read(data))
-        refuse_if(len(content) > MAX_BYTES, 26)
-        refuse_if(len(out) < len(content), 25)
-        refuse_if(len(written) < 1, 14)
+        return write_log(packed(read(data)), out, written)
     except Refused as refused:
         return refused.number, out, written
-    return 0, content + out[len(content):], onto([len(content)], written)
+
+
+def intervals_call(data, out, written):
+    """Refusal, lent bytes, written."""
+    try:
+        refuse_if(is_crowded(read(data)), 28)
+        return write_log(interval_bytes(data), out, written)
+    except Refused as refused:
+        return refused.number, out, written
 
 
 def check_breakpoint(log, worker, event):
@@ -648,6 +733,76 @@ def check_tube():
     expect("latest starts", step_call(data, latest, [1, 1, 2], 1), (23, [1, 1, 2]))
 
 
+# The interval log of the tube log, its bytes as they stand: the header; of each worker its receives and its checkpoint.
+TUBE_INTERVALS = """
+0300 0300 98000000
+02000000 44000000 01000000 5c000000 03000000
+02000000 64000000 01000000 7c000000 01000000
+01000000 84000000 01000000 90000000 00000000
+02 02 0000 00000000 02000000   02 01 0000 01000000 05000000   01000000 01000000
+02 02 0000 00000000 03000000   02 00 0000 02000000 07000000   00000000 01000000
+02 01 0000 00000000 03000000   00000000 01000000
+"""
+
+
+def check_tube_intervals():
+    """The interval log of the tube log in both forms, and the least closed cut for each of its breakpoints, worked out by hand."""
+    wanted = bytes.fromhex(TUBE_INTERVALS)
+    expect("bytes", len(wanted), 152)
+    expect("named", named_intervals(wanted), [[(2, 0), (1, 1)], [(2, 0), (0, 2)], [(1, 0)]])
+    for form in FORMS:
+        data = logs.in_form(logs.tube(), form)
+        expect("form %d" % form, intervals_call(data, b"\x07" * 155, [7, 7]), (0, wanted + b"\x07" * 3, [152, 7]))
+    for (i, e), cut in {
+        (0, 1): [1, 0, 0], (0, 2): [2, 1, 0], (0, 3): [2, 1, 0],
+        (1, 1): [0, 0, 0], (1, 2): [0, 1, 0], (1, 3): [0, 1, 0], (1, 4): [2, 2, 0],
+        (2, 1): [0, 0, 0], (2, 2): [0, 0, 0], (2, 3): [0, 0, 1],
+    }.items():
+        log = read(logs.tube())
+        expect("interval cut of %d/%d" % (i, e), least_closed(wanted, i, intervals_of(log, i)[e]), cut)
+        check_interval_cut(log, wanted, i, e)
+
+
+# Checkpoints of a worker whose third event of four is its one receive, the others being sends, and whether 28 refuses the log: in
+# form 2 and in form 1. None where another number does.
+CROWDED = (
+    ([], False, False),
+    # one in interval 0: the initial state does not count
+    ([(0, 1)], False, False),
+    ([(2, 1)], False, False),
+    ([(0, 1), (0, 2)], True, True),
+    ([(0, 1), (2, 2)], True, True),
+    ([(1, 1), (2, 2)], True, True),
+    ([(3, 1), (4, 2)], True, True),
+    # the receive is between them
+    ([(2, 1), (3, 2)], False, False),
+    ([(0, 1), (4, 2)], False, False),
+    ([(0, 1), (3, 2), (4, 3)], True, True),
+    # a withdrawn one beside one, and between two; in form 1 it is not withdrawn
+    ([(0, 1), ("withdrawn", 1, 2)], False, True),
+    ([("withdrawn", 0, 1), (1, 2)], False, None),
+    ([("withdrawn", 0, 1), ("withdrawn", 1, 2)], False, True),
+    ([(0, 1), ("withdrawn", 1, 2), (2, 3)], True, None),
+    ([(0, 1), ("withdrawn", 1, 2), (3, 3)], False, None),
+    ([(0, 1), (3, 2), ("withdrawn", 4, 3)], False, True),
+)
+
+
+def check_crowded():
+    """28 of logs with the answer worked out by hand; it is given before 25 and 14, and else these are."""
+    events = [("send", 1, 1), ("send", 1, 2), ("receive", 1, 1, 3), ("send", 1, 4)]
+    for checkpoints, *crowded in CROWDED:
+        for form, answer in zip((SECOND_FORM, FIRST_FORM), crowded):
+            data = logs.build([logs.Worker(0, events, checkpoints), logs.Worker(0, [("send", 0, 1)])], form=form)
+            number = 11 if answer is None else 28 if answer else 0
+            kept = sum(form == FIRST_FORM or not logs.is_withdrawn(c) for c in checkpoints)
+            length = 48 + 12 + 8 * kept
+            for few, words, other in ((0, [7], 0), (1, [], 25), (0, [], 14)):
+                found = intervals_call(data, bytes(length - few), words)
+                expect("%r in form %d" % (checkpoints, form), found[0], number or other)
+                expect("written", found[2], [length] if (number or other) == 0 else words)
+
+
 # Unit tables that load, and others that do not.
 LOADED = [BUILT_IN, [1] * 12, [1000] * 12, list(range(1, 13)), [1000, 1] * 6]
 UNLOADED = [[], [1] * 11, [1] * 13, [0] + [1] * 11, [1] * 11 + [1001]]
@@ -796,6 +951,36 @@ def check_limit():
             expect("26 before 25, 25 before 14", pack_call(data, out, []), (26 if more else 25 if few else 14, out, []))
 
 
+def receives_at_the_limit(receives, checkpoints):
+    """A log of form 1 of seven workers: each sends once to the next, and receives the one send of the one before again and again. They
+    have so many receives and checkpoints together, and share the bytes of 1,024 checkpoints, one after each of the first receives."""
+    shares = [receives // 7 + (w < receives % 7) for w in range(7)]
+    workers = [
+        logs.Worker(0, [("send", (w + 1) % 7, 1)] + [("receive", (w - 1) % 7, 1, 2 + x) for x in range(shares[w])])
+        for w in range(7)
+    ]
+    workers[0].checkpoints = [(2 + c, 1 + c) for c in range(1024)]
+    fields = {(w, "checkpoint offset"): 8 + 20 * 7 for w in range(7)}
+    counts = {(w, "checkpoint count"): min(1024, checkpoints - 1024 * w) for w in range(7)}
+    return logs.build(workers, [("checkpoints", 0)] + [("events", w) for w in range(7)], {**fields, **counts})
+
+
+def check_interval_limit():
+    """The interval log has as many bytes as a log may have, or 4 more; the packed log has more than both. Two checkpoints in one
+    interval are refused before that."""
+    for receives, checkpoints, more in ((344735, 7167, 0), (344736, 7166, 4)):
+        data = receives_at_the_limit(receives, checkpoints)
+        expect("log", len(data), 8 + 20 * 7 + 12 * (receives + 7) + 8 * 1024)
+        expect("length", len(interval_bytes(data)), MAX_BYTES + more)
+        expect("26 of the packed log", pack_call(data, bytes(MAX_BYTES), [7]), (26, bytes(MAX_BYTES), [7]))
+        for few in (0, 1):
+            out = bytes(MAX_BYTES + more - few)
+            expect("26 before 25, 25 before 14", intervals_call(data, out, []), (26 if more else 25 if few else 14, out, []))
+    # of the longer one: the first checkpoint is at the index of the second
+    crowded = data[:148] + struct.pack("<I", 3) + data[152:]
+    expect("28 before 26, 25 and 14", intervals_call(crowded, b"", []), (28, b"", []))
+
+
 def random_workers(seed, form):
     """The workers of a small log: receives of any earlier send, in form 1 also twice; several checkpoints, also of one index."""
     rng = random.Random(seed)
@@ -852,6 +1037,73 @@ def check_pack(data, other):
             expect("packed", found, (0, data + lent[:more], [len(data), 7]))
         for out, number in ((lent, 14), (lent[:len(data) - 1], 25)):
             expect("nothing written", pack_call(log, out, []), (number, out, []))
+
+
+def check_intervals(data, other):
+    """The interval log of a log, and of another one of the same records, against the definitions. The value is whether 28 refuses
+    it."""
+    log = read(data)
+    crowded = any(
+        not any(is_receive(event) for event in log.events[w][a.index:b.index])
+        for w in range(log.n) for a, b in itertools.combinations([c for c in log.checkpoints[w] if not c.withdrawn], 2)
+    )
+    content = interval_bytes(data)
+    lent = b"\x07" * (len(content) + 3)
+    for each in (data, other):
+        expect("28 before 25", intervals_call(each, b"", [])[0], 28 if crowded else 25)
+        expect("nothing written", intervals_call(each, lent[:-4], [7]), (28 if crowded else 25, lent[:-4], [7]))
+        expect("nothing written", intervals_call(each, lent, []), (28 if crowded else 14, lent, []))
+        for more in (0, 3):
+            out = lent[:len(content) + more]
+            wanted = (28, out, [7, 7]) if crowded else (0, content + out[:more], [len(content), 7])
+            expect("interval log", intervals_call(each, out, [7, 7]), wanted)
+    check_interval_records(log, content)
+    lent = 3 * log.n + log.n ** 2
+    found = every_call(content, log.n, 0, 1, lent) + [call(content, bytes(lent), [7]) for call in (pack_call, intervals_call)]
+    expect("form 3 is refused by each call", {refusal(content)} | {number for number, *_ in found}, {2})
+    return crowded
+
+
+def check_interval_records(log, content):
+    """The bytes of an interval log, number by number: a receive names as many receives as are before its send, and the sections stand
+    one behind the other."""
+    expect("fields", struct.unpack_from("<HHI", content), (3, log.n, len(content)))
+    at = 8 + 20 * log.n
+    for w in range(log.n):
+        receives = [
+            (e.kind, e.peer, 0, sum(is_receive(f) for f in log.events[e.peer][:e.send - 1]), e.stamp)
+            for e in log.events[w] if e.kind != SEND
+        ]
+        kept = [
+            (sum(is_receive(e) for e in log.events[w][:c.index]), c.identifier) for c in log.checkpoints[w] if not c.withdrawn
+        ]
+        behind = at + 12 * len(receives)
+        entry = (len(receives), at, len(kept), behind, log.roles[w])
+        expect("entry", struct.unpack_from("<5I", content, 8 + 20 * w), entry)
+        expect("receives", list(struct.iter_unpack("<BBHII", content[at:behind])), receives)
+        at = behind + 8 * len(kept)
+        expect("checkpoints", list(struct.iter_unpack("<II", content[behind:at])), kept)
+    expect("end", at, len(content))
+
+
+def check_interval_cut(log, content, i, e, name="random log"):
+    """The least closed cut of the interval log's bytes that holds the breakpoint's interval has, worker by worker, the receives within
+    the lower cut."""
+    cut, _ = figure2(log, i, e)
+    held = sum(is_receive(event) for event in log.events[i][:e])
+    within = [sum(is_receive(event) for event in log.events[w][:cut[w]]) for w in range(log.n)]
+    expect("%s: interval cut of %d/%d" % (name, i, e), least_closed(content, i, held), within)
+
+
+def check_closed_cuts(log, content):
+    """The least closed cut of each interval against all interval cuts."""
+    counts = [sum(map(is_receive, section)) for section in log.events]
+    closed = [cut for cut in itertools.product(*[range(count + 1) for count in counts]) if is_closed(content, cut)]
+    for i in range(log.n):
+        for m in range(counts[i] + 1):
+            least = least_closed(content, i, m)
+            assert tuple(least) in closed and least[i] >= m
+            assert all(at_most(least, cut) for cut in closed if cut[i] >= m)
 
 
 def every_cut(log):
@@ -996,6 +1248,10 @@ def check_forms(data):
         for a, b in itertools.combinations([log.event(w, x) for w, x in log.every_event()], 2)
     )
     expect("form 2", refusal(second), 24 if repeat else 0)
+    for lent, words in ((0, []), (400, [7])):
+        number, *rest = intervals_call(second, bytes(lent), words)
+        wanted = (24, bytes(lent), words) if repeat else intervals_call(first, bytes(lent), words)
+        expect("interval logs of both forms", (number, *rest), wanted)
     out_of_range = [(log.n, 1)] + [(w, x) for w in range(log.n) for x in (0, log.count(w) + 1)]
     enough = log.n * log.n + 3 * (log.n + 1)
     for (i, e), lent in itertools.product(log.every_event() + out_of_range, (0, enough)):
@@ -1011,26 +1267,32 @@ def check_forms(data):
 
 
 def check_random(logs_tried):
-    """The number of logs with two receives of one send, of breakpoints tried, and of those whose latest checkpoints are no
-    plan; and the counts of check_floor."""
-    repeats = tried = lowered = 0
+    """The number of logs with two receives of one send, of those that 28 refuses, of those that it does not refuse and in which a
+    receive names an interval above 0, of breakpoints tried, and of those whose latest checkpoints are no plan; and the counts of
+    check_floor."""
+    repeats = crowded = named = tried = lowered = 0
     floor = Counter()
     for seed, form in itertools.product(range(logs_tried), FORMS):
         workers = random_workers(seed, form)
         data = logs.build(workers, form=form)
         check_pack(data, scattered(seed, workers, form))
+        refused = check_intervals(data, scattered(seed, workers, form))
+        crowded += refused
+        named += not refused and any(interval for receives in named_intervals(interval_bytes(data)) for _, interval in receives)
         repeats += check_forms(data)
         log = read(data)
+        check_closed_cuts(log, interval_bytes(data))
         for identifier in range(8):
             check_covering(log, identifier)
         for i, e in log.every_event():
             check_cuts(log, i, e)
+            check_interval_cut(log, interval_bytes(data), i, e)
             check_plan(log, data, i, e)
             floor += check_floor(log, i, e)
             cut, _ = figure2(log, i, e)
             tried += 1
             lowered += plan_starts(log, cut) != latest_starts(log, cut)
-    return repeats, tried, lowered, floor
+    return repeats, crowded, named, tried, lowered, floor
 
 
 def check_random_sets(logs_tried):
@@ -1059,15 +1321,18 @@ def check_random_sets(logs_tried):
 
 def check_random_withdrawn(logs_tried):
     """Logs of form 2 with some checkpoints withdrawn: every call gives what it gives for the log without these records, and each
-    has its own packed log. The number of logs with a withdrawn checkpoint, and of breakpoints at which some call gives something
-    else with none withdrawn."""
-    some = moved = 0
+    has its own packed log. The number of logs with a withdrawn checkpoint, of breakpoints at which some call gives something else
+    with none withdrawn, and of logs that 28 would refuse with none withdrawn and does not refuse."""
+    some = moved = freed = 0
     for seed in range(logs_tried):
         workers = random_workers(seed, SECOND_FORM)
         marked, without = with_some_withdrawn(seed, workers)
         data, unmarked, less = (logs.build(each, form=SECOND_FORM) for each in (marked, workers, without))
         check_pack(data, scattered(seed, marked, SECOND_FORM))
+        freed += not check_intervals(data, scattered(seed, marked, SECOND_FORM)) and is_crowded(read(unmarked))
         log = read(data)
+        out = bytes(400)
+        expect("without the withdrawn", intervals_call(data, out, [7]), intervals_call(less, out, [7]))
         expect("the mark is packed", packed(log) == packed(read(unmarked)), data == unmarked)
         some += data != unmarked
         enough = log.n * log.n + 3 * (log.n + 1)
@@ -1080,28 +1345,33 @@ def check_random_withdrawn(logs_tried):
         for identifier in itertools.chain(range(8), range(MARK, MARK + 8)):
             check_covering(log, identifier)
             expect("without the withdrawn", covers(log, identifier), covers(read(less), identifier))
-    return some, moved
+    return some, moved, freed
 
 
 def check():
     check_tube()
+    check_tube_intervals()
+    check_crowded()
     check_smaller()
     check_checkpoints()
     check_withdrawn()
     check_sets()
     check_limit()
+    check_interval_limit()
     check_loading()
-    repeats, tried, lowered, floor = check_random(400)
+    repeats, crowded, named, tried, lowered, floor = check_random(400)
     covering, at_checkpoint, more = check_random_sets(400)
     floor += more
-    withdrawn, moved = check_random_withdrawn(400)
-    assert withdrawn > 0 and moved > 0
+    withdrawn, moved, freed = check_random_withdrawn(400)
+    assert withdrawn > 0 and moved > 0 and 100 < crowded < 700 and named > 20 and freed > 100
     assert all(floor[count] > 0 for count in FLOOR), floor
     print("T1 to T10; %d breakpoints of 400 logs of each form, %d of them with starts below the latest" % (tried, lowered))
     print("each log in both forms, %d of them with two receives of one send; packed, also from sections in any order" % repeats)
+    print("the interval log of each, %d of them refused by 28, in %d of the others a receive names an interval above 0; its least "
+        "closed cut for every breakpoint" % (crowded, named))
     print("2400 sets, %d of them cover, %d do not because of sends at the checkpoint alone" % (covering, at_checkpoint))
     print("%d logs with withdrawn checkpoints, and each without these records; at %d breakpoints some answer is another one than with "
-        "none withdrawn" % (withdrawn, moved))
+        "none withdrawn, and %d logs are converted that 28 would refuse then" % (withdrawn, moved, freed))
     print("sets that cover, within the cut: %(at)d times each start is at the set, in %(lowered)d of these with a later checkpoint "
         "within the cut; %(later)d times one is later" % floor)
     print("sets that cover, past the cut in some worker: %(past)d times a start is before the set, in %(within)d of these before a "

@@ -20,7 +20,7 @@ use super::text::TOTALS;
 use super::text::UNTOUCHED;
 use super::text::print_changes;
 
-// The numbers of the calls. Those from 13 to 23 are free.
+// The numbers of the calls. Those from 14 to 23 are free.
 const LOG_REFUSAL: usize = 0;
 
 const VECTOR: usize = 1;
@@ -46,6 +46,8 @@ const PACK: usize = 10;
 const LOAD_TABLE: usize = 11;
 
 const BUILT_IN: usize = 12;
+
+const INTERVALS: usize = 13;
 
 // The calls that write words of one kind; a number that is free makes none. `value` is the worker, or the identifier of a covering set.
 fn run_one(log: &[u8], event: u32, given: [u32; SIZE], call: usize, value: u32) -> u32 {
@@ -159,13 +161,22 @@ fn run_restore(log: &[u8], event: u32, given: [u32; SIZE], worker: u32) -> u32 {
     number
 }
 
-// The packed log, in the bytes that are lent.
-fn run_pack(log: &[u8], given: [u32; SIZE]) -> u32 {
+// Packing, or the conversion to an interval log.
+fn write_log(log: &[u8], is_pack: bool, out: &mut [u8], written: &mut [u64]) -> u32 {
+    if is_pack {
+        return planner::pack(log, out, written);
+    }
+    planner::intervals(log, out, written)
+}
+
+// The packed log or the interval log, in the bytes that are lent.
+fn run_writer(log: &[u8], given: [u32; SIZE], is_pack: bool) -> u32 {
     let mut bytes = [GUARD; ROOM + PAST];
     let mut totals = [UNTOUCHED; TOTALS];
     let count = numbers::bytes_lent(given);
-    let number = planner::pack(
+    let number = write_log(
         log,
+        is_pack,
         numbers::first(&mut bytes, count),
         numbers::part_of_totals(&mut totals, given),
     );
@@ -191,7 +202,8 @@ pub(crate) fn run_entry(
             LOWER_CUT => run_search(log, event, given, false, value),
             PLAN => run_search(log, event, given, true, value),
             RESTORE => run_restore(log, event, given, value),
-            PACK => run_pack(log, given),
+            PACK => run_writer(log, given, true),
+            INTERVALS => run_writer(log, given, false),
             _ => run_one(log, event, given, call, value),
         };
         text::print_byte(b' ');

@@ -18,7 +18,7 @@ pub const PAST: usize = 8;
 
 // The names of the calls, in WIDTH bytes each; the number of a call is its place among them. A number that is free has blanks.
 const NAMES: [u8; CALLS * WIDTH] =
-    *b" log_refusal vector      upper_line  covers      cut_test    step        steps       lower_cut   plan        restore     pack        load_table  built_in                                                                                                                                       ";
+    *b" log_refusal vector      upper_line  covers      cut_test    step        steps       lower_cut   plan        restore     pack        load_table  built_in    intervals                                                                                                                          ";
 
 const WIDTH: usize = 12;
 

@@ -2,12 +2,13 @@
 //! before and behind.
 
 use crate::description::{
-    packed_length, scratch, scratch_words, worker_count, Description, MARK, MAX_LOG, MAX_WORKERS,
-    TABLE_WORDS,
+    interval_length, packed_length, scratch, scratch_words, worker_count, Description,
+    INTERVAL_FORM, MARK, MAX_LOG, MAX_WORKERS, TABLE_WORDS,
 };
 use crate::failure::{self, Call, Difference, Meaning};
+use crate::intervals::Named;
 use crate::random::Random;
-use crate::sides::{Arguments, EXPORTED, NAMES, REFERENCE};
+use crate::sides::{Arguments, Write, EXPORTED, NAMES, REFERENCE};
 use reference::{Log, BUILT_IN};
 use restore_planner::calls;
 
@@ -19,7 +20,7 @@ const CUT_TOTALS: Meaning = Meaning::Named(&["visits", "workers word"]);
 /// The totals of a plan.
 const PLAN_TOTALS: Meaning = Meaning::Named(&["visits", "events", "units", "workers word"]);
 
-/// The words written with a packed log.
+/// The words written with a packed log or an interval log.
 const WRITTEN: Meaning = Meaning::Named(&["length"]);
 
 /// Words or bytes that are lent, between guards. All hold any numbers at first.
@@ -572,17 +573,23 @@ pub fn restore_and_replay(
     ))
 }
 
-/// Compares the packing of a log, with this many bytes and words lent. Gives the number, and the bytes that were written.
-pub fn pack(random: &mut Random, log: &[u8], bytes: usize, words: usize) -> (u32, Vec<u8>) {
+/// Compares a call that writes a log, with this many bytes and words lent. Gives the number, and the bytes that were written.
+fn write(
+    name: &'static str,
+    [exported, reference]: [Write; 2],
+    random: &mut Random,
+    log: &[u8],
+    (bytes, words): (usize, usize),
+) -> (u32, Vec<u8>) {
     let mut ours = (
         Lent::bytes(random, "out", bytes),
         Lent::any(random, ("written", WRITTEN), words, Random::long),
     );
     let (before, mut theirs) = (ours.clone(), ours.clone());
-    let number = calls::pack(log, ours.0.lent(), ours.1.lent());
-    let other = reference::pack(log, theirs.0.lent(), theirs.1.lent());
+    let number = exported(log, ours.0.lent(), ours.1.lent());
+    let other = reference(log, theirs.0.lent(), theirs.1.lent());
     let call = Call {
-        name: "pack",
+        name,
         random,
         log,
         arguments: &[("out", bytes as u64), ("written", words as u64)],
@@ -601,11 +608,30 @@ pub fn pack(random: &mut Random, log: &[u8], bytes: usize, words: usize) -> (u32
     (0, ours.0.lent()[..length].to_vec())
 }
 
-/// Compares the packing of a log with the number that it has to have, with this many bytes and words lent.
-pub fn pack_gives(random: &mut Random, log: &[u8], (bytes, words): (usize, usize), expected: u32) {
-    let (number, _) = pack(random, log, bytes, words);
+/// Compares the packing of a log, with this many bytes and words lent. Gives the number, and the bytes that were written.
+pub fn pack(random: &mut Random, log: &[u8], lent: (usize, usize)) -> (u32, Vec<u8>) {
+    let sides = [calls::pack as Write, reference::pack];
+    write("pack", sides, random, log, lent)
+}
+
+/// Compares the conversion of a log to an interval log, with this many bytes and words lent. Gives the number, and the bytes that were
+/// written.
+pub fn intervals(random: &mut Random, log: &[u8], lent: (usize, usize)) -> (u32, Vec<u8>) {
+    let sides = [calls::intervals as Write, reference::intervals];
+    write("intervals", sides, random, log, lent)
+}
+
+/// Fails where a call that was lent this many bytes and words did not give this number.
+fn gives(
+    name: &'static str,
+    random: &Random,
+    log: &[u8],
+    (bytes, words): (usize, usize),
+    number: u32,
+    expected: u32,
+) {
     let call = Call {
-        name: "pack",
+        name,
         random,
         log,
         arguments: &[("out", bytes as u64), ("written", words as u64)],
@@ -613,8 +639,20 @@ pub fn pack_gives(random: &mut Random, log: &[u8], (bytes, words): (usize, usize
     call.returned(number, expected);
 }
 
-/// The number of packing an accepted log to this length, with this many bytes and words lent.
-fn pack_number(length: usize, (bytes, words): (usize, usize)) -> u32 {
+/// Compares the packing of a log with the number that it has to have, with this many bytes and words lent.
+pub fn pack_gives(random: &mut Random, log: &[u8], lent: (usize, usize), expected: u32) {
+    let (number, _) = pack(random, log, lent);
+    gives("pack", random, log, lent, number, expected);
+}
+
+/// Compares the conversion of a log with the number that it has to have, with this many bytes and words lent.
+pub fn intervals_gives(random: &mut Random, log: &[u8], lent: (usize, usize), expected: u32) {
+    let (number, _) = intervals(random, log, lent);
+    gives("intervals", random, log, lent, number, expected);
+}
+
+/// The number of writing a log of this length, with this many bytes and words lent.
+fn write_number(length: usize, (bytes, words): (usize, usize)) -> u32 {
     if length > MAX_LOG {
         26
     } else if bytes < length {
@@ -630,10 +668,10 @@ fn pack_number(length: usize, (bytes, words): (usize, usize)) -> u32 {
 /// each kind with those of the log. Gives the packed log.
 pub fn packed(random: &mut Random, log: &[u8], accepted: &Log) -> Vec<u8> {
     let length = packed_length(accepted);
-    let (number, packed) = pack(random, log, length, 1);
+    let (number, packed) = pack(random, log, (length, 1));
     let expected = Description::of(accepted).pack_as(accepted.form.number);
     let arguments = Arguments::any(random, log, accepted);
-    let again = pack(random, &packed, length, 1);
+    let again = pack(random, &packed, (length, 1));
     let call = |name| Call {
         name,
         random,
@@ -653,6 +691,68 @@ pub fn packed(random: &mut Random, log: &[u8], accepted: &Log) -> Vec<u8> {
         call(name).same([failure::words(word, &found, &expected)]);
     }
     packed
+}
+
+/// Compares the interval log of a log that neither 28 nor 26 refuses with the one of its content. Each call on a log refuses it by 2 and
+/// leaves what it is lent, scratch and guards too, and its least closed cut for some events of the log has the receives within the lower
+/// cut. Gives the interval log.
+pub fn converted(random: &mut Random, log: &[u8], accepted: &Log) -> Vec<u8> {
+    let (number, converted) = intervals(random, log, (interval_length(accepted), 1));
+    let content = Description::of(accepted);
+    let expected = content.converted(accepted.form.number);
+    let call = Call {
+        name: "intervals",
+        random,
+        log,
+        arguments: &[],
+    };
+    call.returned(number, 0);
+    call.holds(converted == expected.pack_as(INTERVAL_FORM), || {
+        "the interval log is not that of the log's content".to_string()
+    });
+    is_refused_by(random, &converted, 2);
+    refused(random, &converted, 2, &mut Seen::default());
+    let named = Named::of(&converted);
+    for _ in 0..3 {
+        let w = random.below(accepted.size()) as u32;
+        let count = accepted.workers[w as usize].count() as usize;
+        if count > 0 {
+            let event = random.within(1, count) as u32;
+            interval_cut(random, log, accepted, &named, (w, event));
+        }
+    }
+    converted
+}
+
+/// Compares, for an event of a log, the least closed cut of its interval log with the receives within the exported lower cut. Gives that
+/// cut.
+pub fn interval_cut(
+    random: &Random,
+    log: &[u8],
+    accepted: &Log,
+    named: &Named,
+    (worker, event): (u32, u32),
+) -> Vec<u32> {
+    let receives = |w: usize, last: u32| {
+        let events = accepted.workers[w].events(0, last);
+        events.filter(|event| event.is_receive()).count() as u32
+    };
+    let (mut cut, mut scratch, mut totals) = (vec![0; accepted.size()], scratch(log), [0; 2]);
+    let number = calls::lower_cut(log, worker, event, &mut cut, &mut scratch, &mut totals);
+    let call = Call {
+        name: "lower_cut",
+        random,
+        log,
+        arguments: &[("worker", worker.into()), ("event", event.into())],
+    };
+    call.returned(number, 0);
+    let within = cut.iter().enumerate().map(|(w, &last)| receives(w, last));
+    let within: Vec<u32> = within.collect();
+    let held = receives(worker as usize, event);
+    let found = named.least_closed(worker as usize, held);
+    let word = |w| format!("the least closed cut of worker {w}");
+    call.same([failure::words(word, &found, &within)]);
+    found
 }
 
 /// A plan with a list of steps, as the exported function answered it.
@@ -940,6 +1040,7 @@ pub struct Seen {
     numbers: Vec<u64>,
     restored: Vec<u64>,
     packed: Vec<u64>,
+    converted: Vec<u64>,
     tables: Vec<u64>,
     finished: u64,
     unfinished: u64,
@@ -990,6 +1091,16 @@ impl Seen {
     /// Fails where no packing returned one of the numbers.
     pub fn has_packed(&self, numbers: impl IntoIterator<Item = u32>) {
         has(&self.packed, numbers);
+    }
+
+    /// Counts the number of a conversion of a log to its interval log.
+    pub fn add_converted(&mut self, number: u32) {
+        count(&mut self.converted, number);
+    }
+
+    /// Fails where no conversion returned one of the numbers.
+    pub fn has_converted(&self, numbers: impl IntoIterator<Item = u32>) {
+        has(&self.converted, numbers);
     }
 
     /// Counts the number of a loading of a table or of the built-in one.
@@ -1051,6 +1162,7 @@ pub fn every_call(random: &mut Random, log: &[u8], seen: &mut Seen) {
             replays(random, log, &accepted, seen);
             tests(random, log, &accepted, seen);
             packs(random, log, &accepted, seen);
+            conversions(random, log, &accepted, seen);
         }
         Err(number) => refused(random, log, number, seen),
     }
@@ -1119,12 +1231,12 @@ fn refused_states(
     log: &[u8],
     worker: u32,
     n: usize,
-) -> [(&'static str, u32); 5] {
+) -> [(&'static str, u32); 6] {
     let words: Vec<u32> = (0..3 * n).map(|_| random.word()).collect();
     let positions: Vec<u32> = (0..n).map(|_| random.word()).collect();
     let cut = &positions;
     let bytes = random.pick(&[0, log.len(), log.len() + 20]);
-    let written = random.below(3);
+    let lent = (bytes, random.below(3));
     [
         ("cut_test", cut_test(random, log, cut, n.min(2))),
         ("covers", covers(random, log, worker, n.min(2))),
@@ -1133,7 +1245,8 @@ fn refused_states(
             "steps",
             steps(random, log, &words, &positions, &[0, 1, 2], 4),
         ),
-        ("pack", pack(random, log, bytes, written).0),
+        ("pack", pack(random, log, lent).0),
+        ("intervals", intervals(random, log, lent).0),
     ]
 }
 
@@ -1257,17 +1370,56 @@ fn tests(random: &mut Random, log: &[u8], accepted: &Log, seen: &mut Seen) {
 /// Compares packings with as many bytes and words as are needed, fewer and more, and the packed log with the log.
 fn packs(random: &mut Random, log: &[u8], accepted: &Log, seen: &mut Seen) {
     let length = packed_length(accepted);
-    let most = length.min(MAX_LOG);
     for _ in 0..3 {
-        let fewer = random.below(most);
-        let more = most + random.within(1, 40);
-        let bytes = random.pick(&[0, fewer, most - 1, most, most, more]);
-        let lent = (bytes, random.pick(&[0, 1, 1, 2, 5]));
-        let number = pack_number(length, lent);
+        let lent = lent_for(random, length);
+        let number = write_number(length, lent);
         pack_gives(random, log, lent, number);
         seen.add_packed(number);
     }
     if length <= MAX_LOG {
         packed(random, log, accepted);
+    }
+}
+
+/// Numbers of bytes and words to lend for a log of this length: as many as are needed, fewer or more.
+fn lent_for(random: &mut Random, length: usize) -> (usize, usize) {
+    let most = length.min(MAX_LOG);
+    let fewer = random.below(most);
+    let more = most + random.within(1, 40);
+    let bytes = random.pick(&[0, fewer, most - 1, most, most, more]);
+    (bytes, random.pick(&[0, 1, 1, 2, 5]))
+}
+
+/// The longest log, in bytes, that is laid out anew in any order.
+const MOST_LAID_OUT: usize = 200_000;
+
+/// Compares conversions to interval logs with as many bytes and words as are needed, fewer and more, and the interval log with the log. A
+/// log that 28 refuses is compared without the checkpoints at fault too, in another layout; only the numbers of the log as it is are
+/// counted.
+fn conversions(random: &mut Random, log: &[u8], accepted: &Log, seen: &mut Seen) {
+    let length = interval_length(accepted);
+    let (content, form) = (Description::of(accepted), accepted.form.number);
+    let crowded = content.is_crowded(form);
+    for _ in 0..3 {
+        let lent = lent_for(random, length);
+        let number = if crowded {
+            28
+        } else {
+            write_number(length, lent)
+        };
+        intervals_gives(random, log, lent, number);
+        seen.add_converted(number);
+    }
+    if !crowded && length <= MAX_LOG {
+        converted(random, log, accepted);
+    }
+    if crowded {
+        let content = content.without_crowded(form);
+        let log = match log.len() {
+            0..=MOST_LAID_OUT => content.lay_out(form, random),
+            _ => content.pack_as(form),
+        };
+        let accepted = reference::accept(&log).expect("an accepted log");
+        conversions(random, &log, &accepted, &mut Seen::default());
     }
 }

@@ -143,6 +143,19 @@ pub fn packed_length(log: &Log) -> usize {
     8 + 20 * log.size() + sections.sum::<usize>()
 }
 
+/// The length of the interval log of an accepted log.
+pub fn interval_length(log: &Log) -> usize {
+    let sections = log.workers.iter().map(|worker| {
+        let events = worker.events(0, worker.count());
+        let kept = worker.checkpoints().filter(|c| !c.withdrawn);
+        12 * events.filter(|e| e.is_receive()).count() + 8 * kept.count()
+    });
+    8 + 20 * log.size() + sections.sum::<usize>()
+}
+
+/// The form of an interval log.
+pub const INTERVAL_FORM: u16 = 3;
+
 impl Description {
     /// The content of an accepted log.
     pub fn of(log: &Log) -> Description {
@@ -270,6 +283,67 @@ impl Description {
         events[to] = Event::receive(kind.max(2), peer.into(), send, stamp);
     }
 
+    /// The content of the interval log of a log of this form: the receives, each naming the receives of its sender before the send, and
+    /// the checkpoints that are not withdrawn, each with the receives up to it.
+    pub fn converted(&self, form: u16) -> Description {
+        let receives: Vec<Vec<usize>> = (0..self.workers.len()).map(|w| self.receives(w)).collect();
+        let convert = |(worker, own): (&Worker, &Vec<usize>)| Worker {
+            role: worker.role,
+            events: own
+                .iter()
+                .map(|&at| {
+                    let Event { peer, send, .. } = worker.events[at];
+                    let send = interval(&receives[usize::from(peer)], send - 1);
+                    Event {
+                        send,
+                        ..worker.events[at]
+                    }
+                })
+                .collect(),
+            checkpoints: worker
+                .checkpoints
+                .iter()
+                .filter(|&&(_, word)| !is_withdrawn(form, word))
+                .map(|&(index, word)| (interval(own, index), word))
+                .collect(),
+        };
+        Description {
+            workers: self.workers.iter().zip(&receives).map(convert).collect(),
+        }
+    }
+
+    /// Whether two checkpoints of a worker fall into one interval in a log of this form, so that 28 refuses it: two that follow each other,
+    /// withdrawn ones left out, have no receive between them.
+    pub fn is_crowded(&self, form: u16) -> bool {
+        self.workers.iter().any(|worker| {
+            let kept = worker.checkpoints.iter();
+            let kept = kept.filter(|&&(_, word)| !is_withdrawn(form, word));
+            let indices: Vec<usize> = kept.map(|&(index, _)| index as usize).collect();
+            let mut pairs = indices.windows(2);
+            pairs.any(|two| worker.events[two[0]..two[1]].iter().all(|e| e.kind == 1))
+        })
+    }
+
+    /// The content with the first checkpoint of each interval, and with all that are withdrawn in a log of this form: 28 does not refuse
+    /// it.
+    pub fn without_crowded(&self, form: u16) -> Description {
+        let mut description = self.clone();
+        for (w, worker) in description.workers.iter_mut().enumerate() {
+            let receives = self.receives(w);
+            let mut free = 0;
+            worker.checkpoints.retain(|&(index, word)| {
+                if is_withdrawn(form, word) {
+                    return true;
+                }
+                let own = interval(&receives, index);
+                let is_first = own >= free;
+                free = own + 1;
+                is_first
+            });
+        }
+        description
+    }
+
     fn header_length(&self) -> usize {
         8 + 20 * self.workers.len()
     }
@@ -360,6 +434,16 @@ impl Description {
         }
         Description::finish(log)
     }
+}
+
+/// The interval of a worker after its first `index` events, given the places of its receives: how many of them are among these.
+fn interval(receives: &[usize], index: u32) -> u32 {
+    receives.partition_point(|&at| at < index as usize) as u32
+}
+
+/// Whether a checkpoint with this identifier word is withdrawn in a log of this form.
+fn is_withdrawn(form: u16, word: u32) -> bool {
+    form == 2 && word >= MARK
 }
 
 /// A place at or after `from` where these bytes are.

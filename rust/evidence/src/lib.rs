@@ -1,5 +1,5 @@
 //! What the tests and the benchmark share: seeded numbers, logs made and damaged, calls compared with the reference, what a comparison
-//! prints where it fails, and the stack that calls take.
+//! prints where it fails, cuts of interval logs, and the stack that calls take.
 
 #![deny(missing_docs, unsafe_code)]
 
@@ -7,6 +7,7 @@ pub mod compare;
 pub mod damage;
 pub mod description;
 pub mod failure;
+pub mod intervals;
 pub mod random;
 pub mod runs;
 pub mod sides;

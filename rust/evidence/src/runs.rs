@@ -673,6 +673,71 @@ pub fn counts_of_length(workers: usize, length: usize) -> Vec<(u32, u32)> {
         .collect()
 }
 
+/// A log of form 1 of the most events in each worker: the first `receivers` workers receive sends of the last one, any of those to them and
+/// again and again; all others have the bytes of its sends, which are to these workers in turn.
+pub fn received_from_one(workers: usize, receivers: u32) -> Vec<u8> {
+    let mut log = Description {
+        workers: vec![Worker::default(); workers],
+    }
+    .pack();
+    let shared = log.len() as u32;
+    let to = |stamp: u32| (stamp - 1) % receivers;
+    log.extend((1..=MAX_EVENTS).flat_map(|stamp| Event::send(to(stamp) as usize, stamp).bytes()));
+    for receiver in 0..receivers {
+        let own = log.len() as u32;
+        put(&mut log, 12 + 20 * receiver as usize, own);
+        let sends = MAX_EVENTS / receivers;
+        log.extend((1..=MAX_EVENTS).flat_map(|k| {
+            // A prime that does not divide their number, so each is named.
+            let send = (u64::from(k) * 1_000_003 % u64::from(sends)) as u32;
+            let kind = if k % 3 == 0 { 3 } else { 2 };
+            let named = 1 + receiver + send * receivers;
+            Event::receive(kind, workers - 1, named, MAX_EVENTS + k).bytes()
+        }));
+    }
+    for w in 0..workers {
+        put(&mut log, 8 + 20 * w, MAX_EVENTS);
+        if w >= receivers as usize {
+            put(&mut log, 12 + 20 * w, shared);
+        }
+    }
+    let length = log.len() as u32;
+    put(&mut log, 4, length);
+    log
+}
+
+/// A log of form 1 of seven workers with these numbers of receives and of checkpoints: each sends once to the next one, and receives the
+/// one send of the worker before it again and again. They share the bytes of 1,024 checkpoints, one after each of the first receives, so
+/// that their interval log can be longer than the log.
+pub fn repeated_receives(workers: &[(u32, u32); 7]) -> Vec<u8> {
+    let mut description = Description {
+        workers: vec![Worker::default(); 7],
+    };
+    for (w, &(receives, _)) in workers.iter().enumerate() {
+        let events = &mut description.workers[w].events;
+        events.push(Event::send((w + 1) % 7, 1));
+        let kind = |k| if k % 3 == 0 { 3 } else { 2 };
+        events.extend((0..receives).map(|k| Event::receive(kind(k), (w + 6) % 7, 1, k + 2)));
+    }
+    let mut log = description.pack();
+    let checkpoints = log.len() as u32;
+    let words = (1..=1_024).flat_map(|k| [k + 1, k]);
+    log.extend(words.flat_map(u32::to_le_bytes));
+    for (w, &(_, many)) in workers.iter().enumerate() {
+        put(&mut log, 16 + 20 * w, many);
+        put(&mut log, 20 + 20 * w, checkpoints);
+    }
+    let length = log.len() as u32;
+    put(&mut log, 4, length);
+    log
+}
+
+/// The numbers for [`repeated_receives`] that make an interval log of `length` bytes.
+pub fn receives_of_length(length: usize) -> [(u32, u32); 7] {
+    let counts = counts_of_length(7, length);
+    counts.try_into().expect("seven workers")
+}
+
 /// A log of the most workers and close to 4 MiB.
 pub fn widest(random: &mut Random) -> Description {
     let events = (MAX_LOG - 8 - MAX_WORKERS * (20 + 60 * 8)) / 12 - MAX_WORKERS * 30;

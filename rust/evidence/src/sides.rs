@@ -2,7 +2,7 @@
 
 use crate::compare::{event, length, table, worker, State, MOST_BYTES};
 use crate::description::{
-    packed_length, scratch, worker_count, MARK, MAX_LOG, MAX_WORKERS, TABLE_WORDS,
+    interval_length, packed_length, scratch, worker_count, MARK, MAX_LOG, MAX_WORKERS, TABLE_WORDS,
 };
 use crate::random::Random;
 use reference::{Log, BUILT_IN};
@@ -40,8 +40,8 @@ pub type RestoreAndReplay = fn(
     &mut [u64],
 ) -> u32;
 
-/// The packing of a log.
-pub type Pack = fn(&[u8], &mut [u8], &mut [u64]) -> u32;
+/// A call that writes a log: its packing, or its conversion to an interval log.
+pub type Write = fn(&[u8], &mut [u8], &mut [u64]) -> u32;
 
 /// The calls of one side.
 #[derive(Clone, Copy, Debug)]
@@ -59,7 +59,8 @@ pub struct Calls {
     pub step: Step,
     pub steps: Steps,
     pub restore_and_replay: RestoreAndReplay,
-    pub pack: Pack,
+    pub pack: Write,
+    pub intervals: Write,
 }
 
 /// The exported functions.
@@ -77,6 +78,7 @@ pub const EXPORTED: Calls = Calls {
     steps: calls::steps,
     restore_and_replay: calls::restore_and_replay,
     pack: calls::pack,
+    intervals: calls::intervals,
 };
 
 /// The reference.
@@ -94,6 +96,7 @@ pub const REFERENCE: Calls = Calls {
     steps: reference::steps,
     restore_and_replay: reference::restore_and_replay,
     pack: reference::pack,
+    intervals: reference::intervals,
 };
 
 /// Calls that do nothing.
@@ -111,6 +114,7 @@ pub const EMPTY: Calls = Calls {
     steps: |_, _, _, _, _| 0,
     restore_and_replay: |_, _, _, _, _, _, _, _, _, _| 0,
     pack: |_, _, _| 0,
+    intervals: |_, _, _| 0,
 };
 
 impl Calls {
@@ -140,7 +144,7 @@ impl Calls {
 }
 
 /// The names of the calls.
-pub const NAMES: [&str; 13] = [
+pub const NAMES: [&str; 14] = [
     "log_refusal",
     "vector",
     "upper_line",
@@ -154,6 +158,7 @@ pub const NAMES: [&str; 13] = [
     "steps",
     "restore_and_replay",
     "pack",
+    "intervals",
 ];
 
 /// What the calls on a log are given.
@@ -176,6 +181,8 @@ pub struct Arguments {
     pub lent: [usize; 5],
     /// How many bytes and words are lent for the packed log.
     pub packed: (usize, usize),
+    /// How many bytes and words are lent for the interval log.
+    pub converted: (usize, usize),
 }
 
 /// What a call is lent to write.
@@ -189,9 +196,9 @@ pub struct Lent {
     pub positions: Vec<u32>,
     /// The answers of a list of steps, or the answers with the positions after each.
     pub steps: Vec<u32>,
-    /// Totals, or the length of a packed log.
+    /// Totals, or the length of a log that is written.
     pub totals: Vec<u64>,
-    /// A packed log.
+    /// A packed log or an interval log.
     pub out: Vec<u8>,
 }
 
@@ -207,6 +214,7 @@ impl Arguments {
             table: BUILT_IN.to_vec(),
             lent: [n, 3 * n, 4, list.len() * (n + 1), TABLE_WORDS],
             packed: (packed_length(log).min(MAX_LOG), 1),
+            converted: (interval_length(log).min(MAX_LOG), 1),
             list,
         }
     }
@@ -233,13 +241,14 @@ impl Arguments {
         }
         let (bytes, words) = arguments.packed;
         arguments.packed = (length(random, bytes), length(random, words));
+        let (bytes, words) = arguments.converted;
+        arguments.converted = (length(random, bytes), length(random, words));
         arguments
     }
 
     /// What a call on a log is lent: as much scratch as it needs, the positions from which steps are made, and else 7s.
     pub fn lend(&self, name: &str, log: &[u8]) -> Lent {
         let [line, plan, totals, steps, table] = self.lent;
-        let (bytes, written) = self.packed;
         let of = |words: usize| Lent {
             words: vec![7; words],
             ..Lent::default()
@@ -252,6 +261,11 @@ impl Arguments {
         let with_positions = |steps: usize| Lent {
             positions: self.state.positions.clone(),
             steps: vec![7; steps],
+            ..Lent::default()
+        };
+        let for_log = |(bytes, written): (usize, usize)| Lent {
+            totals: vec![7; written],
+            out: vec![7; bytes],
             ..Lent::default()
         };
         match name {
@@ -267,11 +281,8 @@ impl Arguments {
                 steps: vec![7; steps],
                 ..with_scratch(plan, totals)
             },
-            "pack" => Lent {
-                totals: vec![7; written],
-                out: vec![7; bytes],
-                ..Lent::default()
-            },
+            "pack" => for_log(self.packed),
+            "intervals" => for_log(self.converted),
             _ => Lent::default(),
         }
     }
@@ -304,6 +315,7 @@ impl Arguments {
                 log, worker, event, list, table, words, scratch, positions, steps, totals,
             ),
             "pack" => (calls.pack)(log, out, totals),
+            "intervals" => (calls.intervals)(log, out, totals),
             other => panic!("there is no call {other}"),
         }
     }

@@ -1,7 +1,7 @@
 //! The stack that the exported calls take, in bytes, on logs that make them go deep.
 
 use crate::compare::State;
-use crate::description::{set_form, Description, MAX_EVENTS, MAX_WORKERS};
+use crate::description::{get, set_form, worker_count, Description, MAX_EVENTS, MAX_WORKERS};
 use crate::runs::{add_falling, deep, different_sends, ring, shared_sends};
 use crate::sides::{Arguments, Calls, EMPTY, EXPORTED, REFERENCE};
 use crate::touched::touched;
@@ -60,19 +60,56 @@ impl Case {
     }
 }
 
-/// Logs of the most workers, of form 2 and with receives that do not rise.
+/// Logs of the most workers, of form 2 and with receives that do not rise. No two checkpoints of a worker are in one interval.
 pub fn cases() -> [Case; 3] {
     let last = MAX_WORKERS - 1;
-    let falling = |mut description: Description| {
-        add_falling(&mut description);
-        description.pack_as(2)
-    };
-    let senders: Vec<usize> = (1..MAX_WORKERS).collect();
-    let sends = different_sends(&senders, &[], MAX_EVENTS as usize);
     [
         Case::new(falling(deep(MAX_WORKERS, 16)), last),
-        Case::new(falling(ring(MAX_WORKERS, 20_000)), last),
-        Case::new(shared_sends(MAX_WORKERS, 0, &sends), 0),
+        short_ring(),
+        sharing(MAX_WORKERS),
+    ]
+}
+
+/// The log of form 2 of this content and of two receives that do not rise, without the checkpoints that 28 refuses.
+fn falling(mut description: Description) -> Vec<u8> {
+    add_falling(&mut description);
+    description.without_crowded(2).pack_as(2)
+}
+
+/// A log of the most workers with 20,000 events.
+fn short_ring() -> Case {
+    Case::new(falling(ring(MAX_WORKERS, 20_000)), MAX_WORKERS - 1)
+}
+
+/// A log of the most events in each worker: worker 0 receives sends of the others, which share bytes.
+fn sharing(workers: usize) -> Case {
+    let senders: Vec<usize> = (1..workers).collect();
+    let sends = different_sends(&senders, &[], MAX_EVENTS as usize);
+    Case::new(shared_sends(workers, 0, &sends), 0)
+}
+
+/// The places of the table in which `intervals` keeps the intervals at the starts of blocks of 2^b events.
+pub const PLACES: usize = 32_768;
+
+/// The smallest b for which a log has no more blocks than the table has places. A worker of c events has c / 2^b + 1 blocks.
+pub fn block_bits(log: &[u8]) -> u32 {
+    let counts = (0..worker_count(log)).map(|w| get(log, 8 + 20 * w) as usize);
+    let blocks = |bits: u32| {
+        counts
+            .clone()
+            .map(|count| (count >> bits) + 1)
+            .sum::<usize>()
+    };
+    let bits = (0..32).find(|&bits| blocks(bits) <= PLACES);
+    bits.expect("a log of at most 64 workers")
+}
+
+/// Logs for `intervals` with blocks of 1, 16 and 128 events, the largest that there are, by the b of [`block_bits`].
+pub fn of_blocks() -> [(u32, Case); 3] {
+    [
+        (0, short_ring()),
+        (4, sharing(8)),
+        (7, sharing(MAX_WORKERS)),
     ]
 }
 

@@ -15,6 +15,8 @@ const PLANS: [u32; 2] = [15, 27];
 const TABLES: [u32; 3] = [0, 14, 27];
 /// The numbers of a packing with enough bytes and words or fewer.
 const PACKINGS: [u32; 3] = [0, 14, 25];
+/// The numbers of a conversion to an interval log with enough bytes and words or fewer.
+const CONVERSIONS: [u32; 4] = [0, 14, 25, 28];
 /// The numbers of states, edited ones too.
 const STATES: [u32; 4] = [16, 21, 22, 23];
 
@@ -36,6 +38,7 @@ fn small_valid_logs() {
     seen.has_replayed(ARGUMENTS);
     seen.has_replayed(PLANS);
     seen.has_packed(PACKINGS);
+    seen.has_converted(CONVERSIONS);
     seen.has_tables(TABLES);
     seen.has_sets(1_000);
 }
@@ -55,6 +58,7 @@ fn larger_valid_logs() {
     seen.has_replayed(ARGUMENTS);
     seen.has_replayed(PLANS);
     seen.has_packed(PACKINGS);
+    seen.has_converted(CONVERSIONS);
     seen.has_sets(20);
 }
 
@@ -79,6 +83,7 @@ fn logs_of_form_2_with_repeats() {
         seen.has_replayed(ARGUMENTS);
         seen.has_replayed(PLANS);
         seen.has_packed(PACKINGS);
+        seen.has_converted(CONVERSIONS);
     }
 }
 
@@ -100,6 +105,7 @@ fn damaged_logs() {
     seen.has_replayed(ARGUMENTS);
     seen.has_replayed(PLANS);
     seen.has_packed(PACKINGS);
+    seen.has_converted(CONVERSIONS);
 }
 
 #[test]

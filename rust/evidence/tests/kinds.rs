@@ -1,9 +1,10 @@
 //! The kind of one event (document 02, note 5), in the exported calls: each of the 256 bytes in the place of a send's kind and of a
 //! receive's, in logs that are otherwise accepted, with the refusals written down here by the record table of document 01; and what
-//! kind 3 in the place of kind 2 changes in plans and packed logs. What it changes in the plan of the tube log is in `tube.rs`.
+//! kind 3 in the place of kind 2 changes in plans, packed logs and interval logs. What it changes in the plan of the tube log is in
+//! `tube.rs`.
 
-use evidence::compare::{every_call, packed, Seen};
-use evidence::description::{get, worker_count, Description};
+use evidence::compare::{every_call, intervals, packed, Seen};
+use evidence::description::{get, interval_length, worker_count, Description};
 use evidence::failure::{number, words, Call, Meaning};
 use evidence::random::Random;
 use evidence::runs::any_log;
@@ -235,6 +236,29 @@ impl Both {
         pack.same([words(|at| format!("out[{at}]"), &three, &two)]);
     }
 
+    /// Tests the interval logs: 28 refuses both or neither, and there is no difference but the receive's kind. Gives whether they are
+    /// written.
+    fn intervals(&self) -> bool {
+        let [two, three] = self.logs.each_ref().map(|log| {
+            let accepted = reference::accept(log).expect("an accepted log");
+            intervals(
+                &mut self.random.clone(),
+                log,
+                (interval_length(&accepted), 1),
+            )
+        });
+        let call = self.call("intervals", &[]);
+        call.returned(three.0, two.0);
+        if two.0 != 0 {
+            return false;
+        }
+        let kinds = two.1.iter().zip(&three.1).filter(|(a, b)| a != b);
+        call.holds(kinds.eq([(&2, &3)]), || {
+            "other bytes than the kind differ".to_string()
+        });
+        true
+    }
+
     /// The plans of an event.
     fn plans(&self, (worker, event): At) -> [Plan; 2] {
         self.logs.each_ref().map(|log| {
@@ -280,13 +304,16 @@ impl Both {
 #[test]
 fn kinds_2_and_3_of_one_receive() {
     let mut changed = [0; 3];
+    let mut written = 0;
     for round in 0..3_000 {
         let both = Both::any(&mut Random::round(1_300, round));
         both.pack();
+        written += u32::from(both.intervals());
         let changes = events(&both.logs[0]).map(|event| both.plan(event));
         let most = changes.max().expect("an event");
         changed[most as usize] += 1;
     }
     let [_, units, starts] = changed;
     assert!(units > 500 && starts > 300, "{changed:?}");
+    assert!(written > 500, "few interval logs: {written}");
 }

@@ -1,7 +1,7 @@
-//! The library's `Log`, `Replay` and `UnitTable` against the reference on seeded logs and tables.
+//! The library's `Log`, with its packed log and its interval log, `Replay` and `UnitTable` against the reference on seeded logs and tables.
 
 use evidence::compare::{loaded_table, table};
-use evidence::description::packed_length;
+use evidence::description::{interval_length, packed_length};
 use evidence::failure::{number, words, Call, Meaning};
 use evidence::random::Random;
 use evidence::runs::any_log;
@@ -172,4 +172,48 @@ fn packed_logs() {
         let short = log.pack(&mut out[..length - 1]);
         call("Log::pack").holds(short == Err(Refusal::OutBytes), || format!("{short:?}"));
     }
+}
+
+#[test]
+fn interval_logs() {
+    let mut numbers = [0; 2];
+    for round in 0..2_000 {
+        let random = &mut Random::round(2_100, round);
+        let bytes = any_log(random, 8, 30);
+        let accepted = reference::accept(&bytes).expect("an accepted log");
+        let length = interval_length(&accepted);
+        let (mut expected, mut written) = (vec![0; length], [0]);
+        let refusal = reference::intervals(&bytes, &mut expected, &mut written);
+        let call = |name| Call {
+            name,
+            random,
+            log: &bytes,
+            arguments: &[],
+        };
+        let log = call("Log::new").accepted(Log::new(&bytes));
+        let converted = log.interval_log();
+        let mut out = vec![7; length + 9];
+        let found = log.intervals(&mut out);
+        let is_as_expected = match refusal {
+            0 => {
+                let short = log.intervals(&mut vec![7; length - 1]);
+                expected.extend([7; 9]);
+                found == Ok(length)
+                    && out == expected
+                    && converted.as_deref() == Ok(&expected[..length])
+                    && short == Err(Refusal::OutBytes)
+            }
+            _ => {
+                let refused = Refusal::check(refusal).unwrap_err();
+                found == Err(refused)
+                    && out == vec![7; length + 9]
+                    && converted == Err(refused)
+                    && log.intervals(&mut []) == Err(refused)
+                    && refused == Refusal::Interval
+            }
+        };
+        call("Log::intervals").holds(is_as_expected, || format!("{found:?}, not {refusal}"));
+        numbers[usize::from(refusal != 0)] += 1;
+    }
+    assert!(numbers.iter().all(|&times| times > 500), "{numbers:?}");
 }

@@ -1,9 +1,9 @@
 //! The stack of the exported calls: each gives its answers on a thread with 128 KiB, on logs that make it go deep; what the program `stack`
-//! prints of the visits; and how the bytes are measured.
+//! prints of the visits and of the blocks of `intervals`; and how the bytes are measured.
 
 use evidence::description::Worker;
-use evidence::sides::NAMES;
-use evidence::stack::{cases, visited, OfVisits, VISITED};
+use evidence::sides::{NAMES, REFERENCE};
+use evidence::stack::{block_bits, cases, of_blocks, visited, OfVisits, PLACES, VISITED};
 use evidence::touched::touched;
 use std::hint::black_box;
 use std::process::Command;
@@ -59,6 +59,23 @@ fn the_same_bytes_each_time() {
     for call in NAMES {
         let [first, again] = [case.stack(call), case.stack(call)];
         assert_eq!(first, again, "{call}");
+    }
+}
+
+/// Each log has its blocks and is converted, with the table of [`PLACES`] numbers of 16 bits on the stack; in form 2 the test of the log,
+/// which comes first, does not add to it.
+#[test]
+fn blocks_of_intervals() {
+    const TABLE: usize = 2 * PLACES;
+    for (bits, case) in of_blocks() {
+        for form in [1, 2] {
+            let case = case.clone().of_form(form);
+            assert_eq!(block_bits(&case.log), bits);
+            let answer = case.arguments.answer("intervals", &REFERENCE, &case.log);
+            assert_eq!(answer[0], 0, "blocks of {} events", 1 << bits);
+            let found = case.stack("intervals");
+            assert!((TABLE..STACK - TABLE / 2).contains(&found), "{found} bytes");
+        }
     }
 }
 

@@ -1,9 +1,11 @@
 //! The values of documents 01 and 02 for the tube log in both forms, of the reference and of the exported functions.
 
-use evidence::description::{set_form, Description, Event};
+use evidence::compare::State;
+use evidence::description::{set_form, Description, Event, Worker};
+use evidence::intervals::Named;
 use evidence::sides::{
-    Calls, Covers, CutTest, Line, LowerCut, Pack, Plan, RestoreAndReplay, Step, Steps, EXPORTED,
-    REFERENCE,
+    Arguments, Calls, Covers, CutTest, Line, LowerCut, Plan, RestoreAndReplay, Step, Steps, Write,
+    EXPORTED, NAMES, REFERENCE,
 };
 use reference::BUILT_IN;
 
@@ -199,7 +201,7 @@ fn t10(form: u16, covers: Covers) {
 }
 
 /// The tube log is packed, in 212 bytes. 25 comes before 14.
-fn packed(log: &[u8], pack: Pack) {
+fn packed(log: &[u8], pack: Write) {
     let (mut out, mut written) = ([9; 220], [9; 2]);
     assert_eq!(pack(log, &mut out[..211], &mut written), 25);
     assert_eq!(pack(log, &mut out[..211], &mut []), 25);
@@ -213,6 +215,74 @@ fn packed(log: &[u8], pack: Pack) {
     assert_eq!(pack(log, &mut out, &mut written), 0);
     assert_eq!((&out[..212], &out[212..]), (log, &[9; 8][..]));
     assert_eq!(written, [212, 9]);
+}
+
+/// The interval log of the tube log: of each worker its receives and its checkpoint, with the role of its entry.
+fn tube_intervals() -> Vec<u8> {
+    let worker = |role, events: &[Event], interval| Worker {
+        role,
+        events: events.to_vec(),
+        checkpoints: vec![(interval, 1)],
+    };
+    let workers = vec![
+        worker(
+            3,
+            &[Event::receive(2, 2, 0, 2), Event::receive(2, 1, 1, 5)],
+            1,
+        ),
+        worker(
+            1,
+            &[Event::receive(2, 2, 0, 3), Event::receive(2, 0, 2, 7)],
+            0,
+        ),
+        worker(0, &[Event::receive(2, 1, 0, 3)], 0),
+    ];
+    Description { workers }.pack_as(3)
+}
+
+/// The tube log in intervals has 152 bytes, the same for both forms. 25 comes before 14. Every call on a log refuses it by 2, with
+/// arguments with which none refuses the tube log.
+fn in_intervals(log: &[u8], calls: &Calls) {
+    let intervals = calls.intervals;
+    let expected = tube_intervals();
+    assert_eq!(expected.len(), 152);
+    let (mut out, mut written) = ([9; 160], [9; 2]);
+    assert_eq!(intervals(log, &mut out[..151], &mut written), 25);
+    assert_eq!(intervals(log, &mut out[..151], &mut []), 25);
+    assert_eq!(intervals(log, &mut out[..152], &mut []), 14);
+    assert_eq!((out, written), ([9; 160], [9; 2]));
+    assert_eq!(intervals(log, &mut out[..152], &mut written[..1]), 0);
+    assert_eq!((&out[..152], &out[152..]), (&expected[..], &[9; 8][..]));
+    assert_eq!(written, [152, 9]);
+    let accepted = reference::accept(log).expect("an accepted log");
+    let state = State::planned(log, 2, 1).expect("a plan");
+    let arguments = Arguments::new((2, 1), state, vec![2], &accepted);
+    for name in NAMES.into_iter().filter(|name| !name.ends_with("table")) {
+        assert_eq!(arguments.answer(name, calls, log)[0], 0, "{name}");
+        assert_eq!(arguments.answer(name, calls, &expected)[0], 2, "{name}");
+    }
+}
+
+/// The least closed cut of each interval of the tube log.
+#[test]
+fn cuts_of_the_tube_log_in_intervals() {
+    let named = Named::of(&tube_intervals());
+    assert_eq!(named.receives(), [2, 2, 1]);
+    for (worker, interval, cut) in [
+        (0, 0, [0, 0, 0]),
+        (0, 1, [1, 0, 0]),
+        (0, 2, [2, 1, 0]),
+        (1, 0, [0, 0, 0]),
+        (1, 1, [0, 1, 0]),
+        (1, 2, [2, 2, 0]),
+        (2, 0, [0, 0, 0]),
+        (2, 1, [0, 0, 1]),
+    ] {
+        assert_eq!(named.least_closed(worker, interval), cut);
+        assert!(named.is_closed(&cut));
+    }
+    assert!(!named.is_closed(&[2, 0, 0]));
+    assert!(!named.is_closed(&[1, 2, 1]));
 }
 
 #[test]
@@ -238,6 +308,7 @@ fn values(calls: &Calls) {
         list_of_steps(log, calls.steps);
         plan_and_steps(log, calls.restore_and_replay);
         packed(log, calls.pack);
+        in_intervals(log, calls);
     }
 }
 

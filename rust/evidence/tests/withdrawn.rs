@@ -91,7 +91,7 @@ fn the_same_log_without_their_records() {
         }
     }
     for (name, times) in NAMES.into_iter().zip(changed) {
-        let chooses = ["plan", "covers", "restore_and_replay"].contains(&name);
+        let chooses = ["plan", "covers", "restore_and_replay", "intervals"].contains(&name);
         assert!(chooses == (times > 0), "{name}: {changed:?}");
     }
 }

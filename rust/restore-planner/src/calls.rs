@@ -138,6 +138,15 @@ mod exported {
             written: *mut u64,
             written_length: usize,
         ) -> u32;
+
+        pub fn intervals(
+            log: *const u8,
+            log_length: usize,
+            out: *mut u8,
+            out_length: usize,
+            written: *mut u64,
+            written_length: usize,
+        ) -> u32;
     }
 }
 
@@ -364,6 +373,21 @@ pub fn pack(log: &[u8], out: &mut [u8], written: &mut [u64]) -> u32 {
     // SAFETY: each pointer goes with the length of its slice, which is borrowed for the whole call, alone where it is mutable.
     unsafe {
         exported::pack(
+            log.as_ptr(),
+            log.len(),
+            out.as_mut_ptr(),
+            out.len(),
+            written.as_mut_ptr(),
+            written.len(),
+        )
+    }
+}
+
+/// Writes the interval log to the first bytes of `out`, and how many they are to the first word of `written`.
+pub fn intervals(log: &[u8], out: &mut [u8], written: &mut [u64]) -> u32 {
+    // SAFETY: each pointer goes with the length of its slice, which is borrowed for the whole call, alone where it is mutable.
+    unsafe {
+        exported::intervals(
             log.as_ptr(),
             log.len(),
             out.as_mut_ptr(),

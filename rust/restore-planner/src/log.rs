@@ -290,6 +290,68 @@ impl<'a> Log<'a> {
         Ok(bytes)
     }
 
+    /// Writes the interval log to the first bytes of `out`; gives how many they are. The other bytes stay as they are.
+    ///
+    /// Interval k of a worker is its state after k of its receives. The interval log is of form 3, with a header and sections as in the
+    /// packed log, and has the receives alone: each names, in place of the send, the interval of its sender in which the send is. Each
+    /// checkpoint has its interval in place of its index, and those that are withdrawn are left out. It is the same for all logs of the
+    /// same roles, events and checkpoints that are not withdrawn, of either form and wherever their sections are. Being of form 3, it is no
+    /// [`Log`].
+    ///
+    /// Take the least cut of intervals that has the breakpoint's interval within it and, with each receive, the interval that the receive
+    /// names. Its number for each worker is how many receives of that worker are within the breakpoint's lower cut.
+    ///
+    /// ```
+    /// use restore_planner::{Log, Refusal};
+    ///
+    /// let bytes = include_bytes!(concat!(env!("CARGO_MANIFEST_DIR"), "/examples/tube.log"));
+    /// let log = Log::new(bytes)?;
+    /// let mut out = [7; 160];
+    /// assert_eq!(log.intervals(&mut out)?, 152);
+    /// // The second receive of worker 0, from worker 1, of a send behind one receive.
+    /// assert_eq!(out[80..92], [2, 1, 0, 0, 1, 0, 0, 0, 5, 0, 0, 0]);
+    /// assert_eq!(out[152..], [7; 8]);
+    /// assert_eq!(log.intervals(&mut out[..151]), Err(Refusal::OutBytes));
+    /// # Ok::<(), Refusal>(())
+    /// ```
+    ///
+    /// # Errors
+    ///
+    /// [`Refusal::Interval`] where two checkpoints of a worker that are not withdrawn fall into one interval, else
+    /// [`Refusal::PackedLength`] where the interval log would have over 4,194,304 bytes, else [`Refusal::OutBytes`] where `out` has fewer
+    /// than the interval log. Each leaves `out` as it is.
+    pub fn intervals(&self, out: &mut [u8]) -> Result<usize, Refusal> {
+        let mut written = [0];
+        Refusal::check(calls::intervals(self.bytes, out, &mut written))?;
+        let [length] = written;
+        // At most the length of `out`.
+        Ok(length as usize)
+    }
+
+    /// The interval log, as [`Log::intervals`] writes it.
+    ///
+    /// ```
+    /// use restore_planner::{Log, Refusal};
+    ///
+    /// # let bytes = include_bytes!(concat!(env!("CARGO_MANIFEST_DIR"), "/examples/tube.log"));
+    /// let converted = Log::new(bytes)?.interval_log()?;
+    /// assert_eq!(converted.len(), 152);
+    /// assert_eq!(Log::new(&converted).unwrap_err(), Refusal::Form);
+    /// # Ok::<(), Refusal>(())
+    /// ```
+    ///
+    /// # Errors
+    ///
+    /// [`Refusal::Interval`] where two checkpoints of a worker that are not withdrawn fall into one interval, else
+    /// [`Refusal::PackedLength`] where the interval log would have over 4,194,304 bytes.
+    pub fn interval_log(&self) -> Result<Vec<u8>, Refusal> {
+        let mut bytes = vec![0; header::MOST_BYTES];
+        let length = self.intervals(&mut bytes)?;
+        bytes.truncate(length);
+        bytes.shrink_to_fit();
+        Ok(bytes)
+    }
+
     /// Scratch words for a call, as many as it needs.
     fn scratch(&self) -> Vec<u32> {
         let words = match self.workers {

@@ -5,9 +5,9 @@ use std::fmt;
 
 /// Why a log or an argument was not accepted.
 ///
-/// Of the conditions that apply, the one with the smallest number is given, where 24, 26 and 25 count, in this order, as being between
-/// 11 and 12. [`Refusal::number`] is the number of document 01; 24 is that of document 02, note 1, 25 and 26 are those of note 2, and 27
-/// is that of note 7.
+/// Of the conditions that apply, the one with the smallest number is given, where 24, 28, 26 and 25 count, in this order, as being
+/// between 11 and 12. [`Refusal::number`] is the number of document 01; 24 is that of document 02, note 1, 25 and 26 are those of note 2,
+/// 27 is that of note 7, and 28 is that of note 9.
 #[derive(Clone, Copy, Debug, PartialEq, Eq, Hash)]
 #[non_exhaustive]
 pub enum Refusal {
@@ -45,19 +45,21 @@ pub enum Refusal {
     Cut,
     /// 24: the log is of form 2, and two receives name one send. It is tested after 11 and before 12.
     Repeat,
-    /// 25: there are fewer bytes than the packed log has. It is tested after 26 and before 12.
+    /// 25: there are fewer bytes than the packed log or the interval log has. It is tested after 26 and before 12.
     OutBytes,
-    /// 26: the packed log would have over 4,194,304 bytes. It is tested after 24.
+    /// 26: the packed log or the interval log would have over 4,194,304 bytes. It is tested after 24, and after 28.
     PackedLength,
     /// 27: the unit table has other than 12 words, or a word outside 1 to 1,000. It is tested after 15.
     UnitTable,
+    /// 28: two recorded checkpoints of a worker, not withdrawn, fall into one interval. It is tested after 24.
+    Interval,
     /// A number that this library does not know.
     Unlisted(u32),
 }
 
 impl Refusal {
     /// The refusals by rising number, [`Refusal::Unlisted`] excepted.
-    pub const LISTED: [Refusal; 20] = [
+    pub const LISTED: [Refusal; 21] = [
         Refusal::LogLength,
         Refusal::Form,
         Refusal::WorkerCount,
@@ -78,6 +80,7 @@ impl Refusal {
         Refusal::OutBytes,
         Refusal::PackedLength,
         Refusal::UnitTable,
+        Refusal::Interval,
     ];
 
     /// What the number of a call means, for numbers that come from [`calls`](crate::calls). A step's number has its own meanings:
@@ -96,7 +99,7 @@ impl Refusal {
             .unwrap_or(Refusal::Unlisted(number)))
     }
 
-    /// The number of document 01 or, for 24 to 27, of document 02.
+    /// The number of document 01 or, for 24 to 28, of document 02.
     pub fn number(self) -> u32 {
         match self {
             Refusal::LogLength => 1,
@@ -119,6 +122,7 @@ impl Refusal {
             Refusal::OutBytes => 25,
             Refusal::PackedLength => 26,
             Refusal::UnitTable => 27,
+            Refusal::Interval => 28,
             Refusal::Unlisted(number) => number,
         }
     }
@@ -170,12 +174,15 @@ impl Refusal {
             Refusal::Repeat => {
                 "two receives in the log name the same send, which a log of form 2 does not allow"
             }
-            Refusal::OutBytes => "too few bytes were given for the packed log",
+            Refusal::OutBytes => "too few bytes were given for the packed log or the interval log",
             Refusal::PackedLength => {
-                "the packed log would be longer than 4,194,304 bytes, since sections of the log share bytes"
+                "the packed log or the interval log would be longer than 4,194,304 bytes, since sections of the log share bytes"
             }
             Refusal::UnitTable => {
                 "the unit table has other than 12 words, or a word outside 1 to 1,000"
+            }
+            Refusal::Interval => {
+                "two checkpoints of a worker, neither of them withdrawn, have no receive between them, so they fall into one interval"
             }
             Refusal::Unlisted(_) => {
                 "the planner gave a number that this version of the library does not know"

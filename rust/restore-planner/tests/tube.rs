@@ -32,7 +32,7 @@ fn refused(bytes: &[u8]) -> Refusal {
 #[test]
 fn refusals_have_the_numbers_of_documents_01_and_02() {
     let numbers: Vec<u32> = Refusal::LISTED.iter().map(|r| r.number()).collect();
-    assert_eq!(numbers, (1..=16).chain(24..=27).collect::<Vec<u32>>());
+    assert_eq!(numbers, (1..=16).chain(24..=28).collect::<Vec<u32>>());
     assert_eq!(Refusal::check(0), Ok(()));
     for refusal in Refusal::LISTED {
         assert_eq!(Refusal::check(refusal.number()), Err(refusal));
@@ -180,7 +180,7 @@ fn the_packed_tube_log() {
     }
     assert_eq!(
         Refusal::OutBytes.to_string(),
-        "too few bytes were given for the packed log (refusal 25)"
+        "too few bytes were given for the packed log or the interval log (refusal 25)"
     );
 }
 
@@ -213,6 +213,94 @@ fn the_tube_log_with_its_sections_moved() {
     assert_eq!(plan(&log, AT).unwrap(), tube_plan());
 }
 
+/// The interval log of the tube log: the header, and of each worker its receives and its checkpoint.
+#[rustfmt::skip]
+const TUBE_INTERVALS: [u8; 152] = [
+    3, 0, 3, 0, 152, 0, 0, 0,
+    2, 0, 0, 0,  68, 0, 0, 0, 1, 0, 0, 0,  92, 0, 0, 0, 3, 0, 0, 0,
+    2, 0, 0, 0, 100, 0, 0, 0, 1, 0, 0, 0, 124, 0, 0, 0, 1, 0, 0, 0,
+    1, 0, 0, 0, 132, 0, 0, 0, 1, 0, 0, 0, 144, 0, 0, 0, 0, 0, 0, 0,
+    2, 2, 0, 0, 0, 0, 0, 0, 2, 0, 0, 0,
+    2, 1, 0, 0, 1, 0, 0, 0, 5, 0, 0, 0,
+    1, 0, 0, 0, 1, 0, 0, 0,
+    2, 2, 0, 0, 0, 0, 0, 0, 3, 0, 0, 0,
+    2, 0, 0, 0, 2, 0, 0, 0, 7, 0, 0, 0,
+    0, 0, 0, 0, 1, 0, 0, 0,
+    2, 1, 0, 0, 0, 0, 0, 0, 3, 0, 0, 0,
+    0, 0, 0, 0, 1, 0, 0, 0,
+];
+
+#[test]
+fn the_tube_log_in_intervals() {
+    for bytes in [tube_of_form(1), tube_of_form(2), scattered_tube()] {
+        let log = Log::new(&bytes).unwrap();
+        assert_eq!(log.interval_log().unwrap(), TUBE_INTERVALS);
+        let mut out = [7; 160];
+        assert_eq!(log.intervals(&mut out[..151]), Err(Refusal::OutBytes));
+        assert_eq!(log.intervals(&mut out[..0]), Err(Refusal::OutBytes));
+        assert_eq!(out, [7; 160]);
+        assert_eq!(log.intervals(&mut out[..152]), Ok(152));
+        assert_eq!(
+            (&out[..152], &out[152..]),
+            (&TUBE_INTERVALS[..], &[7; 8][..])
+        );
+        let mut out = [7; 160];
+        assert_eq!(log.intervals(&mut out), Ok(152));
+        assert_eq!(
+            (&out[..152], &out[152..]),
+            (&TUBE_INTERVALS[..], &[7; 8][..])
+        );
+    }
+    assert_eq!(refused(&TUBE_INTERVALS), Refusal::Form);
+}
+
+/// A log of one worker without events, which has these checkpoints of index 0, by their identifier words.
+fn alone(form: u8, words: &[u32]) -> Vec<u8> {
+    let many = words.len() as u32;
+    let mut bytes = vec![form, 0, 1, 0];
+    for number in [28 + 8 * many, 0, 28, many, 28, 2] {
+        bytes.extend(number.to_le_bytes());
+    }
+    for word in words {
+        bytes.extend([0, *word].map(u32::to_le_bytes).as_flattened());
+    }
+    bytes
+}
+
+#[test]
+fn checkpoints_of_one_interval() {
+    const MARK: u32 = 1 << 31;
+    // The initial state is no second one; of two, one is withdrawn in form 2.
+    for (form, words, kept) in [
+        (1, &[][..], &[][..]),
+        (1, &[7], &[7]),
+        (1, &[MARK + 7], &[MARK + 7]),
+        (2, &[MARK + 7], &[]),
+        (2, &[6, MARK + 7], &[6]),
+        (2, &[MARK + 6, 7], &[7]),
+    ] {
+        let bytes = alone(form, words);
+        let log = Log::new(&bytes).unwrap();
+        assert_eq!(log.interval_log(), Ok(alone(3, kept)));
+    }
+    for (form, words) in [
+        (1, &[6, 7][..]),
+        (1, &[6, MARK + 7]),
+        (2, &[6, 7]),
+        (2, &[5, MARK + 6, 7]),
+    ] {
+        let bytes = alone(form, words);
+        let log = Log::new(&bytes).unwrap();
+        assert_eq!(log.interval_log(), Err(Refusal::Interval));
+        assert_eq!(log.intervals(&mut []), Err(Refusal::Interval));
+        assert_eq!(log.packed(), Ok(bytes.clone()));
+    }
+    assert_eq!(
+        Refusal::Interval.to_string(),
+        "two checkpoints of a worker, neither of them withdrawn, have no receive between them, so they fall into one interval (refusal 28)"
+    );
+}
+
 /// A log of form 1 in which all workers but worker 0, which has no events, share the bytes of 65,535 sends to it.
 fn shared_sends(workers: u32) -> Vec<u8> {
     let header = 8 + 20 * workers;
@@ -243,9 +331,11 @@ fn logs_that_share_bytes_and_grow() {
     let log = Log::new(&bytes).unwrap();
     assert_eq!(log.packed(), Err(Refusal::PackedLength));
     assert_eq!(log.pack(&mut []), Err(Refusal::PackedLength));
+    // No send is in the interval log, which is the header alone.
+    assert_eq!(log.interval_log().unwrap().len(), 8 + 20 * 7);
     assert_eq!(
         Refusal::PackedLength.to_string(),
-        "the packed log would be longer than 4,194,304 bytes, since sections of the log share bytes (refusal 26)"
+        "the packed log or the interval log would be longer than 4,194,304 bytes, since sections of the log share bytes (refusal 26)"
     );
 }
 

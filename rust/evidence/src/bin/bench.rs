@@ -7,13 +7,15 @@
 //! the exported function and one of the reference have their own, with as much scratch as is needed. Every call tests the whole log, so each
 //! ratio has that in it.
 //! The logs are packed; `pack_moved` is the packing of the same logs with their sections in the opposite order and gaps between them.
+//! `intervals` is the conversion of the same logs without the checkpoints that 28 refuses.
 //! `covers` is the test of an identifier that covers; of any other one it ends at the first receive that is lost. The plan is given the
 //! built-in unit table.
 //!
 //! At the end the test of the log and the plan are timed on form 2 beside form 1 of the same logs, in the same place in memory;
 //! `cargo run --release --bin bench forms` times nothing else, and `bench pack` only the calls whose names begin so. Behind that stands the
-//! plan of a log with 1,024 withdrawn checkpoints in each worker (`bench withdrawn`), and last what each call is lent and takes of the
-//! stack (`bench memory`).
+//! plan of a log with 1,024 withdrawn checkpoints in each worker (`bench withdrawn`), then the conversion to an interval log of runs that
+//! grow, each beside the first, and of logs whose receives name any of 65,535 sends (`bench growth`), and last what each call is lent and
+//! takes of the stack (`bench memory`).
 
 use evidence::compare::State;
 use evidence::description::{
@@ -21,7 +23,8 @@ use evidence::description::{
 };
 use evidence::random::Random;
 use evidence::runs::{
-    chain, deep, different_sends, hub, ring, run, shared_sends, two_level_hub, wide_chain, Shape,
+    chain, deep, different_sends, hub, received_from_one, ring, run, shared_sends, two_level_hub,
+    wide_chain, Shape,
 };
 use evidence::sides::NAMES;
 use evidence::stack::{cases, of_forms};
@@ -35,6 +38,8 @@ struct Case {
     log: Vec<u8>,
     /// The log with its sections in the opposite order; empty for a log that is not packed.
     moved: Vec<u8>,
+    /// The log without the checkpoints that 28 refuses, where it is packed.
+    uncrowded: Vec<u8>,
     events: usize,
     /// The breakpoint: the last event of a worker.
     worker: u32,
@@ -82,6 +87,7 @@ impl Case {
             list,
             cut,
             identifier: identifier.unwrap_or(0),
+            uncrowded: log.clone(),
             log,
             moved: Vec::new(),
         }
@@ -90,6 +96,7 @@ impl Case {
     fn packed(description: &Description, worker: usize) -> Case {
         Case {
             moved: description.reversed(),
+            uncrowded: description.without_crowded(1).pack(),
             ..Case::new(description.pack(), worker)
         }
     }
@@ -268,7 +275,7 @@ fn measure(input: &Input, exported: Call, reference: Call) -> Times {
 }
 
 /// Each call by its name, exported and of the reference.
-const CALLS: [(&str, Call, Call); 11] = [
+const CALLS: [(&str, Call, Call); 12] = [
     (
         "log_refusal",
         |c, _| calls::log_refusal(&c.log),
@@ -368,6 +375,11 @@ const CALLS: [(&str, Call, Call); 11] = [
         |c, to| calls::pack(&c.moved, &mut to.out, &mut to.totals),
         |c, to| reference::pack(&c.moved, &mut to.out, &mut to.totals),
     ),
+    (
+        "intervals",
+        |c, to| calls::intervals(&c.uncrowded, &mut to.out, &mut to.totals),
+        |c, to| reference::intervals(&c.uncrowded, &mut to.out, &mut to.totals),
+    ),
 ];
 
 fn micros(time: Duration) -> f64 {
@@ -431,10 +443,12 @@ fn main() {
             print_guard(&print_calls(""));
             print_forms();
             print_withdrawn();
+            print_growth();
             print_memory();
         }
         Some("forms") => print_forms(),
         Some("withdrawn") => print_withdrawn(),
+        Some("growth") => print_growth(),
         Some("memory") => print_memory(),
         Some(start) => drop(print_calls(start)),
     }
@@ -710,6 +724,51 @@ fn print_withdrawn() {
     }
 }
 
+/// A log in which all receives name any of the sends of one worker. The events of more than 32 workers make the blocks the largest: for
+/// each receive up to 127 events are counted.
+fn any_of_one_worker(workers: usize) -> Input {
+    Input {
+        name: format!("any of 65,535 sends, {workers} workers"),
+        cases: vec![Case::new(received_from_one(workers, 4), 0)],
+    }
+}
+
+/// Prints the conversion to an interval log, by the event, of runs that grow, each over the first too, and of logs whose receives name any
+/// of the most sends; with the aims.
+fn print_growth() {
+    let intervals = CALLS.iter().find(|(call, ..)| *call == "intervals");
+    let &(_, exported, reference) = intervals.expect("the conversion");
+    println!();
+    println!(
+        "conversion to an interval log: nanoseconds an event, the least of many runs; aims: exp/ref 2.5 on runs, else 4; over the first 3"
+    );
+    let name = format!("run {MAX_WORKERS} workers");
+    let grown = [20_000, 80_000, 320_000].map(|e| runs(&name, &Shape::long(MAX_WORKERS, e)));
+    let worst = [33, MAX_WORKERS].map(any_of_one_worker);
+    // Prints a row, without its end; gives the nanoseconds of the exported call.
+    let row = |input: &Input| {
+        let events = mean(input, |c| c.events);
+        let times = measure(input, exported, reference);
+        let [own, other] = [times.exported, times.reference].map(|t| micros(t) * 1e3 / events);
+        print!(
+            "  {:<38} {events:>8.0} events exported {own:>6.2} reference {other:>6.2} exp/ref {:.2}",
+            input.name,
+            own / other
+        );
+        own
+    };
+    // Each input is dropped behind its row: the reference takes its tables from the heap, and its time depends on what is there.
+    let mut first = None;
+    for input in grown {
+        let own = row(&input);
+        println!(" over the first {:.2}", own / *first.get_or_insert(own));
+    }
+    for input in worst {
+        row(&input);
+        println!();
+    }
+}
+
 /// Prints for each call at the most workers the words that it is lent to write, and the stack that it takes.
 fn print_memory() {
     let cases = cases();
@@ -720,8 +779,8 @@ fn print_memory() {
         cases.len()
     );
     println!(
-        "totals: two words each; a step: words for each step of a list; out: a packed log of {} bytes",
-        case.arguments.packed.0
+        "totals: two words each; a step: words for each step of a list; out: a packed log of {} bytes, an interval log of {}",
+        case.arguments.packed.0, case.arguments.converted.0
     );
     println!(
         "  {:<18} {:>6} {:>8} {:>7} {:>10} {:>7} {:>8} {:>14} {:>14}",

@@ -1,15 +1,15 @@
 //! Measures the stack that each exported call takes, on logs that make it go deep.
 //!
 //! `cargo run --release --bin stack`: for each call the bytes of stack that it touches, on logs of form 1 and of form 2; for the calls
-//! that make visits those on logs of 16, 32 and 64 workers on which as many visits are open at a time; and for each call the smallest stack of a
-//! thread on which it gives what the reference gives, what the thread itself needs included. Each try of the last is a process of its own,
-//! which is ended where the stack is too small.
+//! that make visits those on logs of 16, 32 and 64 workers on which as many visits are open at a time; for `intervals` those on logs with
+//! blocks of 1, 16 and 128 events; and for each call the smallest stack of a thread on which it gives what the reference gives, what the
+//! thread itself needs included. Each try of the last is a process of its own, which is ended where the stack is too small.
 //!
 //! `stack CALL BYTES`: one try.
 
 use evidence::description::MAX_WORKERS;
 use evidence::sides::{EXPORTED, NAMES, REFERENCE};
-use evidence::stack::{cases, of_forms, Case, OfVisits, VISITED};
+use evidence::stack::{cases, of_blocks, of_forms, Case, OfVisits, VISITED};
 use std::process::{Command, ExitCode, Stdio};
 use std::thread::Builder;
 
@@ -17,9 +17,22 @@ use std::thread::Builder;
 const PAGE: usize = 4_096;
 const LARGEST: usize = 256 * PAGE;
 
+/// The logs of a call: for `intervals` those of other blocks too.
+fn cases_of(call: &str) -> Vec<Case> {
+    let mut all = cases().to_vec();
+    if call == "intervals" {
+        for (_, case) in of_blocks() {
+            if all.iter().all(|other| other.log != case.log) {
+                all.push(case);
+            }
+        }
+    }
+    all
+}
+
 /// Makes a call on each log, on a thread with a stack of this many bytes.
 fn try_call(call: &str, bytes: usize) {
-    for Case { log, arguments } in cases() {
+    for Case { log, arguments } in cases_of(call) {
         let name = call.to_string();
         let (given, lent) = (arguments.clone(), log.clone());
         let thread = Builder::new()
@@ -88,6 +101,16 @@ fn print_visits() {
     }
 }
 
+/// Prints the bytes of stack of `intervals` by the events of a block.
+fn print_blocks() {
+    println!("bytes of stack that intervals takes, by the events of a block:");
+    println!("  {:<18} {:>7} {:>7}", "events", "form 1", "form 2");
+    for (bits, case) in of_blocks() {
+        let [one, two] = of_forms("intervals", &[case]);
+        println!("  {:<18} {one:>7} {two:>7}", 1 << bits);
+    }
+}
+
 /// Prints the smallest stack of a thread that makes each call.
 fn print_smallest() {
     println!("the smallest stack of a thread that makes the call, in KiB:");
@@ -102,6 +125,7 @@ fn main() -> ExitCode {
         [] => {
             print_bytes();
             print_visits();
+            print_blocks();
             print_smallest();
             ExitCode::SUCCESS
         }
