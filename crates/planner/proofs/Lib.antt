@@ -1,4 +1,5 @@
 pub mod Answered
+pub mod LogWritten
 pub mod StepWords
 pub mod Restored
 pub mod SameAnswers

@@ -1,18 +1,12 @@
 -- `planner::intervals` meets its contract: the number is that of `interval_log::intervals`, with 14 for `written`; where it is 0 the length is
 -- in that word, and the bytes before it are what that call promises. Assumes nothing.
-use mathlib.Core.Path.{_≡_, refl, sym, _∙_, ap}
-use mathlib.Core.List.{[], _∷_}
-use lib.ListN.{set}
-use Rattle.lent.specs.Lent.{unlessRefused}
-use Rattle.lent.proofs.Lent.{words-ok, put, untouched, storeEach, stored-words}
+use mathlib.Core.Path.{sym, _∙_}
+use Rattle.lent.proofs.Lent.{words-ok, untouched}
 use Rattle.log.specs.Layout.{workersOf}
-use Rattle.pack.specs.Packed.{packedLength}
-use Rattle.pack.specs.declared.Packed.{Packed}
-use Rattle.pack.proofs.Allowed.{answer-written}
 use Rattle.intervals.specs.Interval.{intervalWorkers}
 use Rattle.interval_log.proofs.Allowed.{intervals-ok}
 use Rattle.lent.proofs.Left.{leaves-both-by}
-use Rattle.planner.proofs.Answered.{first-word}
+use Rattle.planner.proofs.LogWritten.{number-stored, number-first}
 use borrow.Author.Needs.{needs}
 use Rattle.planner.proofs.intervals.Statement.{statement}
 use Rattle.planner.proofs.intervals.Tie as tie
@@ -31,7 +25,6 @@ slice-write-written c =
     words-ok _ _ (sym (called .before .before .words-refusal .ensures) ∙ intervals-ok (called .intervals .ensures .0) (c .if1 .left) .rest)
 
 returns-2 : tie.Need-returns-2
-unfolding storeEach
 returns-2 c =
     let called = c .before .before .before in
     let asked = called .before .before in
@@ -39,13 +32,13 @@ returns-2 c =
     let none = c .if1 .left in
     let may = intervals-ok (called .intervals .ensures .0) none in
     let enough = words-ok _ _ (sym (asked .words-refusal .ensures) ∙ may .rest) in
-    let number = ap (λ (r : Packed). r .written) (called .intervals .ensures .1 .0) ∙ answer-written _ _ none in
+    let log = intervalWorkers (workersOf (start .args .log .now)) in
+    let is = called .intervals .ensures .1 .0 in
+    let written = start .args .written .now in
     let filled = rw none at (called .intervals .ensures .1 .1 .0) in
-    let wrote : set (start .args .written .now) 0 (called .intervals .result .written) ≡ unlessRefused 0 (packedLength (intervalWorkers (workersOf (start .args .log .now))) ∷ []) (start .args .written .now) =
-    rw number (stored-words (_ ∷ []) _ enough ∙ put 0 _ _ refl) in
-    let word = first-word 0 _ _ _ wrote refl ∙ sym number in (
-      leaves-both-by _ _ _ _ (sym none ∙ rw (← asked .words-refusal .ensures) (called .intervals .ensures .0)) filled wrote,
-      λ _. rw word (called .intervals .ensures .1 .1 .1 none),
+    let first = number-first log is none written enough in (
+      leaves-both-by _ _ _ _ (sym none ∙ rw (← asked .words-refusal .ensures) (called .intervals .ensures .0)) filled (number-stored log is none written enough),
+      λ _. rw first (called .intervals .ensures .1 .1 .1 none),
     )
 
 pub intervals-spec : {M : Type 1} → statement M

@@ -1,17 +1,11 @@
 -- `planner::pack` meets its contract: the number is that of `pack::pack`, with 14 for `written`; where it is 0 the length is in that word,
 -- and the file, being archived, is answered as the log is (`archived-alike`). Assumes nothing.
-use mathlib.Core.Path.{_≡_, refl, sym, _∙_, ap}
-use mathlib.Core.List.{[], _∷_}
-use native.Mathlib.Omega.{arith}
-use lib.ListN.{set}
-use Rattle.lent.specs.Lent.{unlessRefused}
-use Rattle.lent.proofs.Lent.{words-ok, put, untouched, storeEach, stored-words}
+use mathlib.Core.Path.{sym, _∙_}
+use Rattle.lent.proofs.Lent.{words-ok, untouched}
 use Rattle.log.specs.Layout.{workersOf}
-use Rattle.pack.specs.Packed.{packedLength}
-use Rattle.pack.specs.declared.Packed.{Packed}
-use Rattle.pack.proofs.Allowed.{pack-ok, answer-written}
+use Rattle.pack.proofs.Allowed.{pack-ok}
 use Rattle.lent.proofs.Left.{leaves-both-by}
-use Rattle.planner.proofs.Answered.{first-word}
+use Rattle.planner.proofs.LogWritten.{number-stored, number-first}
 use Rattle.planner.proofs.Archived.{archived-alike}
 use borrow.Author.Needs.{needs}
 use Rattle.planner.proofs.pack.Statement.{statement}
@@ -31,7 +25,6 @@ slice-write-written c =
     words-ok _ _ (sym (called .before .before .words-refusal .ensures) ∙ pack-ok (called .pack .ensures .0) (c .if1 .left) .rest)
 
 returns-2 : tie.Need-returns-2
-unfolding storeEach
 returns-2 c =
     let called = c .before .before .before in
     let asked = called .before .before in
@@ -39,14 +32,14 @@ returns-2 c =
     let none = c .if1 .left in
     let may = pack-ok (called .pack .ensures .0) none in
     let enough = words-ok _ _ (sym (asked .words-refusal .ensures) ∙ may .rest) in
-    let number = ap (λ (r : Packed). r .written) (called .pack .ensures .1 .0) ∙ answer-written _ _ none in
+    let log = workersOf (start .args .log .now) in
+    let is = called .pack .ensures .1 .0 in
+    let written = start .args .written .now in
     let filled = rw none at (called .pack .ensures .1 .1 .0) in
-    let wrote : set (start .args .written .now) 0 (called .pack .result .written) ≡ unlessRefused 0 (packedLength (workersOf (start .args .log .now)) ∷ []) (start .args .written .now) =
-    rw number (stored-words (_ ∷ []) _ enough ∙ put 0 _ _ refl) in
-    let word = first-word 0 _ _ _ wrote refl ∙ sym number in
+    let first = number-first log is none written enough in
     let archived = called .pack .ensures .1 .1 .1 none in (
-      leaves-both-by _ _ _ _ (sym none ∙ rw (← asked .words-refusal .ensures) (called .pack .ensures .0)) filled wrote,
-      ((λ _. rw word archived), λ _. archived-alike _ _ (may .accepted) (rw word archived)),
+      leaves-both-by _ _ _ _ (sym none ∙ rw (← asked .words-refusal .ensures) (called .pack .ensures .0)) filled (number-stored log is none written enough),
+      ((λ _. rw first archived), λ _. archived-alike _ _ (may .accepted) (rw first archived)),
     )
 
 pub pack-spec : {M : Type 1} → statement M
