@@ -118,13 +118,19 @@ def table(texts, own):
     return turned, brought
 
 
-def turn_code(text, turned, kept):
-    return TOKEN.sub(lambda m: m[0] if m[0] in kept else turned.get(m[0], m[0]), text)
+def turn_code(text, turned, kept, bare=False):
+    """The names of a text turned. One with no dash and no capital may be a function of src/, so it turns in an .antt file and behind no dot."""
+
+    def word(m):
+        may = re.search("[A-Z-]", m[0]) or bare and m.string[m.start() - 1 : m.start()] != "."
+        return turned.get(m[0], m[0]) if may and m[0] not in kept else m[0]
+
+    return TOKEN.sub(word, text)
 
 
 def turn_span(text, turned):
     word = re.compile(r"[A-Za-z][\w'′-]*")
-    return SPAN.sub(lambda s: word.sub(lambda m: turned.get(m[0], m[0]), s[0]), text)
+    return SPAN.sub(lambda s: word.sub(lambda m: turned.get(m[0], m[0]) if re.search("[A-Z-]", m[0]) else m[0], s[0]), text)
 
 
 def turn_comment(text, turned):
@@ -141,7 +147,7 @@ def split(pattern, text, quiet, loud):
 
 
 def turn(f, text, turned, kept):
-    loud = lambda t: turn_code(t, turned, kept)
+    loud = lambda t: turn_code(t, turned, kept, f.endswith(".antt"))
     quiet = lambda t: t if t[0] == '"' else turn_comment(t, turned)
     if f.endswith(".antt"):
         return split(QUIET, text, quiet, loud)

@@ -112,7 +112,7 @@ pub fn worker_units(log: &[u8], table: &[u32], words: &[u32], w: usize) -> u64
 }
 
 // The units of all replayed events, by a table that loads.
-pub fn units_of_lem(log: &[u8], table: &[u32], words: &[u32]) -> u64
+pub fn units_of(log: &[u8], table: &[u32], words: &[u32]) -> u64
     requires { ((log_refusal log.now ≡ 0) × IsHeld (workers_of log.now) words.now) × (table_refusal table.now ≡ 0) }
     ensures answer { result ≡ units_of (table_of table.now) (workers_of log.now)
         (cuts_in (workers_of log.now) words.now) (starts_in (workers_of log.now) words.now) }

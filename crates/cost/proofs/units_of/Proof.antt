@@ -1,4 +1,4 @@
--- `cost::units_of_lem` meets its contract: after w turns `units` is the sum of the units of the first w workers, and by a loaded table it fits
+-- `cost::units_of` meets its contract: after w turns `units` is the sum of the units of the first w workers, and by a loaded table it fits
 -- 64 bits (`held_units`). Assumes nothing.
 use mathlib.Core.Path.{◌≡◌, sym}
 use Prim.Native.Nat.{◌-◌, ◌<◌, ◌≤◌}
@@ -13,8 +13,8 @@ use Rattle.cost.specs.Words.{cuts_in, starts_in}
 use Rattle.unit_table.specs.Table.{table_of}
 use Rattle.cost.specs.Cost.{worker_units, units_of}
 use Rattle.cost.proofs.Held.{held_units}
-use Rattle.cost.proofs.units_of_lem.Statement.{statement}
-use Rattle.cost.proofs.units_of_lem.Tie as tie
+use Rattle.cost.proofs.units_of.Statement.{statement}
+use Rattle.cost.proofs.units_of.Tie as tie
 
 abbrev invariant-loop : tie.invariant-loop
 invariant-loop log table words n units₀ w₀ units w =

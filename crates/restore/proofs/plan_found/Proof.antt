@@ -28,7 +28,7 @@ returns c =
     let words = planned.plan-words.ensures in
     let is_cut = lower_is_cut _ _ _ given.0 given.4 in
     let starts = plan_starts_in _ _ (well_formed _ given.0) is_cut in
-    (rw (words.0, c.before.before.events-of.ensures, c.units_of_lem.ensures, words.1, plan_cuts _ _ is_cut, starts), words.1)
+    (rw (words.0, c.before.before.events-of.ensures, c.units_of.ensures, words.1, plan_cuts _ _ is_cut, starts), words.1)
 
 pub plan_found_spec : {M : Type 1} → statement M
 plan_found_spec =
