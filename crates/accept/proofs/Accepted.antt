@@ -14,14 +14,14 @@ use Rattle.ranges.proofs.Bools.{or_false_left, or_false_right, and_true_left, an
 use Rattle.ranges.proofs.Order.{lt_or_le}
 use Rattle.records.specs.declared.Kind.TheVariants.{Rest}
 use Rattle.records.specs.declared.Event.{Event}
-use Rattle.log.specs.Header.{layout_refusal}
-use Rattle.log.specs.Layout.{workers_of, log_of}
-use Rattle.log.specs.Model.{Workers, worker_count, event_count, event_of, checkpoint_count, checkpoint_of}
+use Rattle.event_log.specs.Header.{layout_refusal}
+use Rattle.event_log.specs.Layout.{workers_of, log_of}
+use Rattle.event_log.specs.Model.{Workers, worker_count, event_count, event_of, checkpoint_count, checkpoint_of}
 use Rattle.records.specs.Event.{is_send, is_receive}
 use Rattle.lent.proofs.Lent.{peel, or_else_zero}
-use Rattle.log.proofs.Readable.{readable}
+use Rattle.event_log.proofs.Readable.{readable}
 use Rattle.records.proofs.EventKinds.{no_receive, not_send, some_kind}
-use Rattle.log.proofs.Read.{size_read, workers_few, count_field, checkpoints_field, role_field_lem, worker_within, worker_within', event_none, event_past, checkpoint_initial, checkpoint_past}
+use Rattle.event_log.proofs.Read.{size_read, workers_few, count_field, checkpoints_field, role_field_lem, worker_within, worker_within', event_none, event_past, checkpoint_initial, checkpoint_past}
 use Rattle.record_tests.specs.Records.{kind_fault, peer_fault, send_fault, field_fault, stamp_fault, send_of, source_fault, order_fault, event_fault}
 use Rattle.record_tests.specs.Records.{checkpoint_fault, record_fault, record_count, worker_fault, some_record}
 use Rattle.repeats.specs.Repeats.{repeat_fault}

@@ -1,7 +1,7 @@
 -- What the test of repeats asks of a log, from what the tests 7 to 11 give. Assumes nothing.
 use Prim.Native.Nat.{◌+◌}
 use native.Mathlib.Omega.{arith}
-use Rattle.log.specs.Model.{Workers}
+use Rattle.event_log.specs.Model.{Workers}
 use Rattle.repeats.specs.Inner.Again.{Messages}
 use Rattle.record_tests.specs.Records.{send_of}
 use Rattle.accept.specs.WellFormed.{WellFormed}

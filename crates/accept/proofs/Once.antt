@@ -13,9 +13,9 @@ use Rattle.ranges.proofs.Order.{eq_or_ne}
 use Rattle.lent.specs.Lent.{or_else}
 use Rattle.lent.proofs.Lent.{or_else_first, or_else_second}
 use Rattle.records.specs.Forms.{second_form, receives_once}
-use Rattle.log.specs.Header.{length_fault, form_fault, size_fault, header_fault, some_entry, entries_refusal, layout_refusal}
-use Rattle.log.specs.Layout.{form_field, workers_of, log_of}
-use Rattle.log.specs.Model.{Workers}
+use Rattle.event_log.specs.Header.{length_fault, form_fault, size_fault, header_fault, some_entry, entries_refusal, layout_refusal}
+use Rattle.event_log.specs.Layout.{form_field, workers_of, log_of}
+use Rattle.event_log.specs.Model.{Workers}
 use Rattle.repeats.specs.Repeats.{some_repeat, repeat_fault, ReceivedOnce, ReceivedTwice}
 use Rattle.repeats.proofs.Again.{repeat_pair, pair_repeats}
 use Rattle.record_tests.specs.Records.{some_record}

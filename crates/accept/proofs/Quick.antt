@@ -6,7 +6,7 @@ use lib.Dec.{eqb}
 use Rattle.ranges.proofs.Any.{any_each, any_every}
 use Rattle.ranges.proofs.Bools.{or_false_left, or_false_right}
 use Rattle.records.specs.declared.Event.{Event}
-use Rattle.log.specs.Model.{Workers, worker_count, event_of}
+use Rattle.event_log.specs.Model.{Workers, worker_count, event_of}
 use Rattle.record_tests.specs.Records.{field_fault, stamp_fault, source_fault, order_fault, any_fault, event_fault, record_fault, record_count, worker_fault, some_record}
 use Rattle.accept.specs.Refusal.{events_refusal}
 

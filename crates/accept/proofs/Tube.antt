@@ -3,13 +3,13 @@
 use mathlib.Core.Path.{◌≡◌, refl, ap}
 use Rattle.ranges.specs.Fold.{any_below, tabulate}
 use Rattle.bytes_le.specs.Little.{le}
-use Rattle.log.specs.Model.{Log, worker_count, worker, event_count, event_of, checkpoint_count, checkpoint_of}
+use Rattle.event_log.specs.Model.{Log, worker_count, worker, event_count, event_of, checkpoint_count, checkpoint_of}
 use Rattle.records.specs.Event.{is_send, is_unlogged, is_logged, is_receive, event_record}
-use Rattle.log.specs.Layout.{field, section, event_section, checkpoint_section, worker_of, workers_of, log_of}
+use Rattle.event_log.specs.Layout.{field, section, event_section, checkpoint_section, worker_of, workers_of, log_of}
 use Rattle.records.specs.Checkpoint.{checkpoint_record}
 use Rattle.records.specs.Forms.{is_form, marks_withdrawn, receives_once}
 use Rattle.records.specs.Mark.{has_mark, without_mark}
-use Rattle.log.specs.Header.{length_fault, form_fault, size_fault, header_fault, limit_fault, outside, section_fault, entry_fault, some_entry, entries_refusal, layout_refusal}
+use Rattle.event_log.specs.Header.{length_fault, form_fault, size_fault, header_fault, limit_fault, outside, section_fault, entry_fault, some_entry, entries_refusal, layout_refusal}
 use Rattle.record_tests.specs.Records.{kind_fault, peer_fault, send_fault, field_fault, stamp_fault, send_of, source_fault, order_fault, any_fault, event_fault}
 use Rattle.record_tests.specs.Records.{checkpoint_fault, record_fault, record_count, worker_fault, some_record}
 use Rattle.lent.specs.Lent.{or_else}

@@ -2,9 +2,9 @@
 -- Assumes nothing.
 use Rattle.std.specs.Prelude.{cond, List, ℕ}
 use Rattle.lent.specs.Lent.{or_else}
-use Rattle.log.specs.Header.{layout_refusal}
-use Rattle.log.specs.Layout.{workers_of, log_of}
-use Rattle.log.specs.Model.{Log, Workers}
+use Rattle.event_log.specs.Header.{layout_refusal}
+use Rattle.event_log.specs.Layout.{workers_of, log_of}
+use Rattle.event_log.specs.Model.{Log, Workers}
 use Rattle.repeats.specs.Repeats.{repeat_fault}
 use Rattle.record_tests.specs.Records.{some_record}
 

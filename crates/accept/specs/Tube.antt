@@ -2,7 +2,7 @@
 -- Assumes nothing.
 use Rattle.std.specs.Prelude.{false, List, [], ◌∷◌, ℕ}
 use Rattle.records.specs.declared.Kind.TheVariants.{Send, Unlogged}
-use Rattle.log.specs.Model.{Log}
+use Rattle.event_log.specs.Model.{Log}
 
 -- the bytes of the log, packed
 abbrev pub tube : List ℕ

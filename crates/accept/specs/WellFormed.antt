@@ -2,8 +2,8 @@
 -- Assumes nothing.
 use Rattle.std.specs.Prelude.{◌≡◌, ◌⊎◌, ◌≢◌, true, ℕ, ◌+◌, ◌<◌, ◌≤◌}
 use Rattle.records.specs.declared.Event.{Event}
-use Rattle.log.specs.Limits.{max_workers, max_events, max_checkpoints, max_role}
-use Rattle.log.specs.Model.{Workers, worker_count, event_count, role_of, event_of, checkpoint_count, checkpoint_of}
+use Rattle.event_log.specs.Limits.{max_workers, max_events, max_checkpoints, max_role}
+use Rattle.event_log.specs.Model.{Workers, worker_count, event_count, role_of, event_of, checkpoint_count, checkpoint_of}
 use Rattle.records.specs.Event.{is_send, is_receive}
 use Rattle.record_tests.specs.Records.{send_of}
 

@@ -1,9 +1,9 @@
 // Every log is accepted, or refused by the first number of 1 to 11 and 24 that applies.
 
 ghost use Rattle.std.specs.Prelude.{◌≡◌};
-ghost use Rattle.log.specs.Header.{layout_refusal};
+ghost use Rattle.event_log.specs.Header.{layout_refusal};
 ghost use Rattle.records.specs.Forms.{second_form};
-ghost use Rattle.log.specs.Layout.{form_field, workers_of, log_of};
+ghost use Rattle.event_log.specs.Layout.{form_field, workers_of, log_of};
 ghost use Rattle.repeats.specs.Repeats.{ReceivedOnce, ReceivedTwice};
 ghost use Rattle.accept.specs.Refusal.{events_refusal, records_refusal, content_refusal, log_refusal};
 
@@ -66,7 +66,7 @@ pub fn accept(log: &[u8]) -> u32
     ensures once { result ≡ 0 → form_field log.now ≡ second_form → ReceivedOnce (workers_of log.now) }
     ensures twice { result ≡ 24 → (form_field log.now ≡ second_form) × ReceivedTwice (workers_of log.now) }
 {
-    let refusal = log::layout_refusal(log);
+    let refusal = event_log::layout_refusal(log);
     if refusal != 0 {
         return refusal;
     }

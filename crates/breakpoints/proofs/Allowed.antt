@@ -11,8 +11,8 @@ use lib.ListN.{length}
 use Rattle.ranges.proofs.Bools.{or_false_left, or_false_right}
 use Rattle.lent.proofs.Lent.{peel, or_else_zero, or_else_first, or_else_second}
 use Rattle.lent.proofs.FirstOf.{first_of_found, first_of_all, first_of_zero}
-use Rattle.log.specs.Layout.{workers_of}
-use Rattle.log.specs.Model.{Workers, worker_count, IsEvent}
+use Rattle.event_log.specs.Layout.{workers_of}
+use Rattle.event_log.specs.Model.{Workers, worker_count, IsEvent}
 use Rattle.accept.specs.Refusal.{Given, log_refusal, given}
 use Rattle.refusals.specs.Refusals.{event_in_refusal}
 use Rattle.refusals.proofs.Allowed.{event_in_ok}

@@ -1,8 +1,8 @@
 // Lists of breakpoints: two words each, worker and event.
 
 ghost use Rattle.std.specs.Prelude.{◌≡◌, ◌+◌, ◌*◌, ◌≤◌, length};
-ghost use Rattle.log.specs.Header.{layout_refusal};
-ghost use Rattle.log.specs.Layout.{workers_of};
+ghost use Rattle.event_log.specs.Header.{layout_refusal};
+ghost use Rattle.event_log.specs.Layout.{workers_of};
 ghost use Rattle.accept.specs.Refusal.{given};
 ghost use Rattle.breakpoints.specs.Breakpoints.{listed_worker, listed_event, breakpoint_count, length_refusal, earliest_refusal, list_refusal};
 

@@ -45,7 +45,7 @@ pub const SHEET: usize = 43;
 // 16, the others 8 words more than the largest log, or the longest table, needs.
 pub const READ_AT: usize = 64;
 
-pub const LIST_AT: usize = READ_AT + 3 * log::MAX_WORKERS + 8;
+pub const LIST_AT: usize = READ_AT + 3 * event_log::MAX_WORKERS + 8;
 
 pub const TABLE_AT: usize = LIST_AT + 2050;
 
@@ -55,17 +55,17 @@ pub const NAME_AT: usize = FILE_AT + 512;
 
 pub const WRITTEN_AT: usize = NAME_AT + 16;
 
-pub const ANSWERS_AT: usize = WRITTEN_AT + log::MAX_WORKERS + 8;
+pub const ANSWERS_AT: usize = WRITTEN_AT + event_log::MAX_WORKERS + 8;
 
 // With the answers of 32 steps, and 8 words more.
-pub const SIZE: usize = ANSWERS_AT + 32 * (log::MAX_WORKERS + 1) + 8;
+pub const SIZE: usize = ANSWERS_AT + 32 * (event_log::MAX_WORKERS + 1) + 8;
 
 // The words of scratch that there are to lend: n × n, and 8 more. A call that lends more needs this number raised, here and in
 // `scripts/calls.py`.
-pub const SCRATCH_ROOM: usize = log::MAX_WORKERS * log::MAX_WORKERS + 8;
+pub const SCRATCH_ROOM: usize = event_log::MAX_WORKERS * event_log::MAX_WORKERS + 8;
 
 // The words of a sheet that there are to lend, 8 more than the largest log needs, and what each holds before a call: a number over every sum.
-pub const SHEET_ROOM: usize = 3 * log::MAX_WORKERS + 8;
+pub const SHEET_ROOM: usize = 3 * event_log::MAX_WORKERS + 8;
 
 pub const SHEET_FILLER: u64 = 18446744073709551615;
 

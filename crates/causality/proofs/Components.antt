@@ -9,7 +9,7 @@ use borrow.Author.Tests.{eq-eqb, ne_eqb, eqb-true}
 use lib.Dec.{eqb}
 use Rattle.ranges.specs.Fold.{max_below}
 use Rattle.ranges.proofs.Max.{max_each, max_some}
-use Rattle.log.specs.Model.{Workers, event_count, event_of}
+use Rattle.event_log.specs.Model.{Workers, event_count, event_of}
 use Rattle.records.specs.Event.{is_receive}
 use Rattle.accept.specs.WellFormed.{WellFormed}
 use Rattle.causality.specs.Happened.{HappenedBefore, message}

@@ -13,7 +13,7 @@ use Rattle.ranges.specs.Fold.{any_below}
 use Rattle.ranges.proofs.Any.{any_each, any_every, any_same}
 use Rattle.ranges.proofs.Bools.{and_true_left, and_true_right}
 use Rattle.ranges.proofs.Order.{lt_or_le}
-use Rattle.log.specs.Model.{Workers, worker_count, event_count, event_of}
+use Rattle.event_log.specs.Model.{Workers, worker_count, event_count, event_of}
 use Rattle.records.specs.Event.{is_receive}
 use Rattle.accept.specs.WellFormed.{WellFormed}
 use Rattle.lent.specs.Lent.{at, word_of}

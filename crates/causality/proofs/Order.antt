@@ -8,7 +8,7 @@ use Prim.Native.Nat.{ℕ, ◌+◌, ◌-◌, ◌<◌, ◌≤◌}
 use native.Mathlib.Nat.{eq-or-lt_of_le}
 use native.Mathlib.Omega.{arith}
 use Rattle.ranges.proofs.Order.{lt_or_le}
-use Rattle.log.specs.Model.{Workers, event_count, event_of, IsEvent}
+use Rattle.event_log.specs.Model.{Workers, event_count, event_of, IsEvent}
 use Rattle.records.specs.Event.{is_receive}
 use Rattle.record_tests.specs.Records.{send_of}
 use Rattle.accept.proofs.Accepted.{receive_within}

@@ -12,8 +12,8 @@ use lib.Dec.{ltb}
 use lib.ListN.{set}
 use lib.Seq.{set-get_or}
 use Rattle.records.specs.declared.Event.{Event}
-use Rattle.log.specs.Layout.{workers_of}
-use Rattle.log.specs.Model.{worker_count, event_count, event_of}
+use Rattle.event_log.specs.Layout.{workers_of}
+use Rattle.event_log.specs.Model.{worker_count, event_count, event_of}
 use Rattle.records.specs.Event.{is_receive}
 use Rattle.accept.specs.Refusal.{log_refusal}
 use Rattle.accept.proofs.Accepted.{well_formed}

@@ -14,7 +14,7 @@ use Rattle.ranges.proofs.Max.{max_more, max_each, max_least, max_same}
 use Rattle.ranges.proofs.Order.{lt_or_le, eq_or_ne}
 use Rattle.ranges.proofs.Tabulate.{length_tabulate, get_d_tabulate, tabulate_list}
 use Rattle.records.specs.declared.Event.{Event}
-use Rattle.log.specs.Model.{Workers, worker_count, event_of}
+use Rattle.event_log.specs.Model.{Workers, worker_count, event_of}
 use Rattle.records.specs.Event.{is_receive}
 use Rattle.lent.specs.Lent.{at}
 use Rattle.causality.specs.Cut.{named_of, component, vector, lacks}

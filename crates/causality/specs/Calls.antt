@@ -2,7 +2,7 @@
 -- Assumes nothing.
 use Rattle.std.specs.Prelude.{◌≡◌, Bool, false, cond, ◌↔◌, List, [], ◌∷◌, ℕ, eqb, length, take}
 use Rattle.lent.specs.Lent.{words_refusal, Left, leaves, word_of}
-use Rattle.log.specs.Model.{Workers, worker_count}
+use Rattle.event_log.specs.Model.{Workers, worker_count}
 use Rattle.accept.specs.Refusal.{Given}
 use Rattle.causality.specs.Cut.{vector, Consistent, is_consistent}
 use Rattle.refusals.specs.Refusals.{line_refusal, test_refusal}

@@ -3,7 +3,7 @@
 use Rattle.std.specs.Prelude.{◌≡◌, Bool, true, not, cond, ◌&&◌, List, ℕ, ◌+◌, ◌<◌, ◌≤◌, eqb, ltb, length}
 use Rattle.ranges.specs.Fold.{any_below, max_below, sum_below, tabulate}
 use Rattle.lent.specs.Lent.{at}
-use Rattle.log.specs.Model.{Workers, worker_count, event_count, event_of}
+use Rattle.event_log.specs.Model.{Workers, worker_count, event_count, event_of}
 use Rattle.records.specs.Event.{is_receive, received}
 
 -- what event k + 1 of worker i names of worker v: its peer event where it is a receive from v, else 0

@@ -1,7 +1,7 @@
 -- Lamport's "happened before" over a log, as the paper's section 2 gives it.
 -- Assumes nothing.
 use Rattle.std.specs.Prelude.{◌≡◌, true, ℕ, ◌<◌, ◌≤◌}
-use Rattle.log.specs.Model.{Workers, event_count, event_of}
+use Rattle.event_log.specs.Model.{Workers, event_count, event_of}
 use Rattle.records.specs.Event.{is_receive}
 
 -- "Event a happened before event b: same worker and smaller index; or a is the send that receive b names; or through a third event"

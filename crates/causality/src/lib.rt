@@ -3,8 +3,8 @@
 ghost use Rattle.std.specs.Prelude.{◌≡◌, false, [], ◌∷◌, ◌+◌, ◌<◌, ◌≤◌, length, take, replicate};
 ghost use Rattle.ranges.specs.Fold.{any_below, first_from};
 ghost use Rattle.lent.specs.Lent.{at, left, word_of};
-ghost use Rattle.log.specs.Layout.{workers_of};
-ghost use Rattle.log.specs.Model.{worker_count, event_count, event_of};
+ghost use Rattle.event_log.specs.Layout.{workers_of};
+ghost use Rattle.event_log.specs.Model.{worker_count, event_count, event_of};
 ghost use Rattle.accept.specs.Refusal.{log_refusal, given};
 ghost use Rattle.causality.specs.Cut.{vector, lacks, worker_lacks, is_consistent};
 ghost use Rattle.refusals.specs.Refusals.{over_count, test_refusal};
@@ -23,7 +23,7 @@ fn note(log: &[u8], i: usize, k: u32, words: &mut [u32])
     requires { (log_refusal log.now ≡ 0) × (length words.old ≡ worker_count (workers_of log.now)) × (k < event_count (workers_of log.now) i) }
     ensures words { words.new ≡ noted (event_of (workers_of log.now) i (k + 1)) words.old }
 {
-    let e = log::event_at(log, i, k + 1);
+    let e = event_log::event_at(log, i, k + 1);
     let peer = e.peer as usize;
     let held = words[peer];
     words[peer] = ranges::larger(held, e.send);
@@ -67,7 +67,7 @@ pub fn vector(log: &[u8], worker: u32, event: u32, words: &mut [u32]) -> u32
     if refusal != 0 {
         return refusal;
     }
-    let n = log::worker_count(log);
+    let n = event_log::worker_count(log);
     vector_into(log, worker as usize, event, &mut words[..n]);
     0
 }
@@ -77,7 +77,7 @@ fn is_lacking(log: &[u8], cut: &[u32], w: usize, k: u32) -> bool
     requires { (log_refusal log.now ≡ 0) × (worker_count (workers_of log.now) ≤ length cut.now) × (k < event_count (workers_of log.now) w) }
     ensures answer { result ≡ lacks (workers_of log.now) cut.now w k }
 {
-    let e = log::event_at(log, w, k + 1);
+    let e = event_log::event_at(log, w, k + 1);
     let peer = e.peer as usize;
     cut[peer] < e.send
 }
@@ -113,7 +113,7 @@ fn some_lacks(log: &[u8], cut: &[u32]) -> bool
         × (any_below (over_count (workers_of log.now) cut.now) (worker_count (workers_of log.now)) ≡ false) }
     ensures answer { result ≡ any_below (worker_lacks (workers_of log.now) cut.now) (worker_count (workers_of log.now)) }
 {
-    let n = log::worker_count(log);
+    let n = event_log::worker_count(log);
     let mut w: usize = 0;
     while w < n {
         if worker_lacks(log, cut, w) {
@@ -129,10 +129,10 @@ fn some_over_count(log: &[u8], words: &[u32]) -> bool
     requires { (log_refusal log.now ≡ 0) × (worker_count (workers_of log.now) ≤ length words.now) }
     ensures answer { result ≡ any_below (over_count (workers_of log.now) words.now) (worker_count (workers_of log.now)) }
 {
-    let n = log::worker_count(log);
+    let n = event_log::worker_count(log);
     let mut w: usize = 0;
     while w < n {
-        if log::event_count(log, w) < words[w] {
+        if event_log::event_count(log, w) < words[w] {
             return true;
         }
         w += 1;
@@ -149,7 +149,7 @@ fn test_refusal(log: &[u8], words: &[u32], others: u32) -> u32
         return refusal;
     }
     let short = lent::or_else(
-        lent::words_refusal(words.len(), log::worker_count(log)),
+        lent::words_refusal(words.len(), event_log::worker_count(log)),
         others,
     );
     if short != 0 {

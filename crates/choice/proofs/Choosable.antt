@@ -9,9 +9,9 @@ use lib.Dec.{leb}
 use lib.ListN.{get_or}
 use Rattle.ranges.proofs.Bools.{and_true_left, and_true_right}
 use Rattle.records.specs.declared.Checkpoint.{Checkpoint}
-use Rattle.log.specs.Model.{Workers, worker_count, checkpoint_count, checkpoint_of}
+use Rattle.event_log.specs.Model.{Workers, worker_count, checkpoint_count, checkpoint_of}
 use Rattle.records.specs.Checkpoint.{initial}
-use Rattle.log.proofs.Read.{checkpoint_initial}
+use Rattle.event_log.proofs.Read.{checkpoint_initial}
 use Rattle.choice.specs.Choice.{may_choose, IsChoice}
 
 module _ (log : Workers) (w : ℕ) where

@@ -18,10 +18,10 @@ use Rattle.ranges.proofs.Bools.{and_true_left, and_true_right, never_true}
 use Rattle.ranges.proofs.Tabulate.{length_tabulate, get_d_tabulate, get_d_tabulate_past, get_d_replicate_all}
 use Rattle.records.specs.declared.Event.{Event}
 use Rattle.records.specs.declared.Checkpoint.{Checkpoint}
-use Rattle.log.specs.Model.{Workers, worker_count, event_of}
+use Rattle.event_log.specs.Model.{Workers, worker_count, event_of}
 use Rattle.records.specs.Checkpoint.{initial}
 use Rattle.records.specs.Event.{is_unlogged, is_receive}
-use Rattle.log.proofs.Read.{checkpoint_initial, worker_within}
+use Rattle.event_log.proofs.Read.{checkpoint_initial, worker_within}
 use Rattle.accept.specs.WellFormed.{WellFormed}
 use Rattle.lent.specs.Lent.{at}
 use Rattle.causality.specs.Cut.{Within, IsCut}

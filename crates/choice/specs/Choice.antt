@@ -4,7 +4,7 @@ use Rattle.std.specs.Prelude.{◌≡◌, Bool, true, not, ◌&&◌, List, map, �
 use Rattle.ranges.specs.Fold.{any_below}
 use Rattle.records.specs.declared.Event.{Event}
 use Rattle.records.specs.declared.Checkpoint.{Checkpoint}
-use Rattle.log.specs.Model.{Workers, worker_count, event_of, checkpoint_count, checkpoint_of}
+use Rattle.event_log.specs.Model.{Workers, worker_count, event_of, checkpoint_count, checkpoint_of}
 use Rattle.records.specs.Checkpoint.{initial}
 use Rattle.records.specs.Event.{is_unlogged}
 use Rattle.lent.specs.Lent.{at}

@@ -1,7 +1,7 @@
 // The checkpoints that may be chosen, and the sends that a start loses.
 
 ghost use Rattle.std.specs.Prelude.{◌≡◌, ◌≤◌};
-ghost use Rattle.log.specs.Layout.{workers_of};
+ghost use Rattle.event_log.specs.Layout.{workers_of};
 ghost use Rattle.accept.specs.Refusal.{log_refusal};
 ghost use Rattle.choice.specs.Choice.{may_choose, loses_send};
 ghost use Rattle.choice.specs.Inner.Compared.{above_starts};
@@ -13,10 +13,10 @@ pub fn may_choose(log: &[u8], w: usize, c: u32) -> bool
     requires { log_refusal log.now ≡ 0 }
     ensures answer { result ≡ may_choose (workers_of log.now) w c }
 {
-    if log::checkpoint_count(log, w) < c {
+    if event_log::checkpoint_count(log, w) < c {
         return false;
     }
-    let point = log::checkpoint_at(log, w, c);
+    let point = event_log::checkpoint_at(log, w, c);
     !point.withdrawn
 }
 

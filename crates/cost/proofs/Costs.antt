@@ -10,11 +10,11 @@ use native.Mathlib.Omega.{arith}
 use borrow.Author.Tests.{leb-true, le-leb}
 use lib.Dec.{leb}
 use Rattle.ranges.proofs.Sum.{sum_bound, sum_le, sum_same}
-use Rattle.log.specs.Limits.{max_workers, max_events}
+use Rattle.event_log.specs.Limits.{max_workers, max_events}
 use Rattle.records.specs.declared.Kind.{Kind}
 use Rattle.records.specs.declared.Kind.TheVariants.{Send, Unlogged, Logged, Rest}
 use Rattle.records.specs.Kind.{column}
-use Rattle.log.specs.Model.{Workers, worker_count, role_of, event_count, event_of}
+use Rattle.event_log.specs.Model.{Workers, worker_count, role_of, event_count, event_of}
 use Rattle.accept.specs.WellFormed.{WellFormed}
 use Rattle.accept.proofs.Accepted.{known_kind}
 use Rattle.lent.specs.Lent.{at}

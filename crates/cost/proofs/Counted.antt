@@ -12,8 +12,8 @@ use Rattle.ranges.proofs.Sum.{sum_more, sum_bound}
 use Rattle.records.specs.declared.Kind.{Kind}
 use Rattle.records.specs.declared.Kind.TheVariants.{Send, Unlogged, Logged, Rest}
 use Rattle.records.specs.declared.Event.{Event}
-use Rattle.log.specs.Model.{Workers, event_count, role_of, event_of}
-use Rattle.log.specs.Limits.{max_events}
+use Rattle.event_log.specs.Model.{Workers, event_count, role_of, event_of}
+use Rattle.event_log.specs.Limits.{max_events}
 use Rattle.accept.specs.WellFormed.{WellFormed}
 use Rattle.accept.proofs.Accepted.{known_kind}
 use Rattle.lent.specs.Lent.{at}

@@ -8,9 +8,9 @@ use lib.ListN.{length}
 use Rattle.ranges.specs.Fold.{sum_below}
 use Rattle.ranges.proofs.Sum.{sum_more, sum_grows}
 use Rattle.ranges.proofs.Tabulate.{get_d_tabulate, tabulate_list}
-use Rattle.log.specs.Limits.{max_events}
-use Rattle.log.specs.Model.{Workers, worker_count, event_count}
-use Rattle.log.specs.Layout.{workers_of}
+use Rattle.event_log.specs.Limits.{max_events}
+use Rattle.event_log.specs.Model.{Workers, worker_count, event_count}
+use Rattle.event_log.specs.Layout.{workers_of}
 use Rattle.accept.specs.Refusal.{log_refusal}
 use Rattle.accept.proofs.Accepted.{well_formed}
 use Rattle.lent.specs.Lent.{at}

@@ -2,7 +2,7 @@
 -- Assumes nothing.
 use Rattle.std.specs.Prelude.{cond, List, ℕ, ◌+◌, ◌-◌, leb}
 use Rattle.ranges.specs.Fold.{sum_below}
-use Rattle.log.specs.Model.{Workers, worker_count, role_of, event_of}
+use Rattle.event_log.specs.Model.{Workers, worker_count, role_of, event_of}
 use Rattle.lent.specs.Lent.{at}
 use Rattle.unit_table.specs.Table.{Table}
 

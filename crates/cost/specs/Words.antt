@@ -3,7 +3,7 @@
 use Rattle.std.specs.Prelude.{List, ℕ, ◌+◌, ◌*◌}
 use Rattle.ranges.specs.Fold.{tabulate}
 use Rattle.lent.specs.Lent.{at}
-use Rattle.log.specs.Model.{Workers, worker_count}
+use Rattle.event_log.specs.Model.{Workers, worker_count}
 
 unfoldable pub cut_in : List ℕ → ℕ → ℕ
 cut_in words w = at words (3 * w)

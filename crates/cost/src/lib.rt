@@ -2,9 +2,9 @@
 
 ghost use Rattle.std.specs.Prelude.{◌≡◌, ◌+◌, ◌-◌, ◌*◌, ◌<◌, ◌≤◌, length};
 ghost use Rattle.ranges.specs.Fold.{tabulate};
-ghost use Rattle.log.specs.Limits.{max_events};
-ghost use Rattle.log.specs.Layout.{workers_of};
-ghost use Rattle.log.specs.Model.{worker_count};
+ghost use Rattle.event_log.specs.Limits.{max_events};
+ghost use Rattle.event_log.specs.Layout.{workers_of};
+ghost use Rattle.event_log.specs.Model.{worker_count};
 ghost use Rattle.accept.specs.Refusal.{log_refusal};
 ghost use Rattle.unit_table.specs.Table.{table_of, table_refusal};
 ghost use Rattle.cost.specs.Words.{cut_in, start_in, identifier_in, cuts_in, starts_in};
@@ -97,14 +97,14 @@ pub fn worker_units(log: &[u8], table: &[u32], words: &[u32], w: usize) -> u64
     let mut counts: u64 = 0;
     let mut k = start;
     while k < cut {
-        let e = log::event_at(log, w, k + 1);
+        let e = event_log::event_at(log, w, k + 1);
         let kind = e.kind;
         counts += counted_as(kind);
         k += 1;
     }
     counted_units(
         table,
-        log::role_of(log, w) as usize,
+        event_log::role_of(log, w) as usize,
         cut - start,
         counts % LOGGED_ONE,
         counts / LOGGED_ONE,
@@ -117,7 +117,7 @@ pub fn units_of(log: &[u8], table: &[u32], words: &[u32]) -> u64
     ensures answer { result ≡ units_of (table_of table.now) (workers_of log.now)
         (cuts_in (workers_of log.now) words.now) (starts_in (workers_of log.now) words.now) }
 {
-    let n = log::worker_count(log);
+    let n = event_log::worker_count(log);
     let mut units: u64 = 0;
     let mut w: usize = 0;
     while w < n {
@@ -133,7 +133,7 @@ pub fn events_of(log: &[u8], words: &[u32]) -> u64
     ensures answer { result ≡ events_of (workers_of log.now)
         (cuts_in (workers_of log.now) words.now) (starts_in (workers_of log.now) words.now) }
 {
-    let n = log::worker_count(log);
+    let n = event_log::worker_count(log);
     let mut events: u64 = 0;
     let mut w: usize = 0;
     while w < n {

@@ -18,10 +18,10 @@ use Rattle.ranges.proofs.First.{last, last_zero}
 use Rattle.ranges.proofs.Tabulate.{length_tabulate, get_d_tabulate, get_d_tabulate_past, get_d_replicate_all, tabulate_list}
 use Rattle.records.specs.declared.Event.{Event}
 use Rattle.records.specs.declared.Checkpoint.{Checkpoint}
-use Rattle.log.specs.Model.{Workers, worker_count, event_count, event_of, checkpoint_count, checkpoint_of}
+use Rattle.event_log.specs.Model.{Workers, worker_count, event_count, event_of, checkpoint_count, checkpoint_of}
 use Rattle.records.specs.Checkpoint.{initial}
 use Rattle.records.specs.Event.{is_receive, is_logged, is_unlogged}
-use Rattle.log.proofs.Read.{worker_within, checkpoint_initial, count_past}
+use Rattle.event_log.proofs.Read.{worker_within, checkpoint_initial, count_past}
 use Rattle.records.proofs.EventKinds.{not_logged}
 use Rattle.accept.specs.WellFormed.{WellFormed}
 use Rattle.lent.specs.Lent.{at, word_of}

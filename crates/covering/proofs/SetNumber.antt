@@ -12,8 +12,8 @@ use Rattle.ranges.proofs.Order.{lt_or_le}
 use Rattle.ranges.proofs.Any.{any_every, any_found}
 use Rattle.ranges.proofs.First.{IsFirst, first}
 use Rattle.ranges.proofs.Tabulate.{length_tabulate}
-use Rattle.log.specs.Model.{Workers, worker_count, checkpoint_count, checkpoint_of}
-use Rattle.log.proofs.Read.{checkpoint_past}
+use Rattle.event_log.specs.Model.{Workers, worker_count, checkpoint_count, checkpoint_of}
+use Rattle.event_log.proofs.Read.{checkpoint_past}
 use Rattle.accept.specs.WellFormed.{WellFormed}
 use Rattle.choice.specs.Choice.{is_startable}
 use Rattle.covering.specs.Covering.{is_set, cut_of_all, without_set, set_index, set_starts}

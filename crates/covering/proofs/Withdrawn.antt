@@ -11,9 +11,9 @@ use Rattle.lent.specs.Lent.{word_of}
 use Rattle.lent.proofs.Left.{word_yes, word_no}
 use Rattle.records.specs.Forms.{marks_withdrawn}
 use Rattle.records.specs.Mark.{top_bit, has_mark}
-use Rattle.log.specs.Model.{Workers}
-use Rattle.log.specs.Layout.{form_field, workers_of, log_of}
-use Rattle.log.proofs.Read.{identifier_below}
+use Rattle.event_log.specs.Model.{Workers}
+use Rattle.event_log.specs.Layout.{form_field, workers_of, log_of}
+use Rattle.event_log.proofs.Read.{identifier_below}
 use Rattle.accept.specs.WellFormed.{WellFormed}
 use Rattle.choice.proofs.Choosable.{may_recorded, may_kept}
 use Rattle.covering.specs.Covering.{covering_set}

@@ -3,7 +3,7 @@
 use Rattle.std.specs.Prelude.{◌≡◌, Bool, true, not, ◌&&◌, ◌↔◌, List, ℕ, ◌+◌, ◌<◌, ◌≤◌, eqb, get_or}
 use Rattle.ranges.specs.Fold.{any_below, last_below, tabulate}
 use Rattle.records.specs.declared.Checkpoint.{Checkpoint}
-use Rattle.log.specs.Model.{Workers, worker_count, event_count, event_of, checkpoint_count, checkpoint_of}
+use Rattle.event_log.specs.Model.{Workers, worker_count, event_count, event_of, checkpoint_count, checkpoint_of}
 use Rattle.records.specs.Checkpoint.{initial}
 use Rattle.records.specs.Event.{is_receive, is_logged}
 use Rattle.choice.specs.Choice.{may_choose, IsChoice, starts_of, Startable, is_startable}

@@ -2,7 +2,7 @@
 -- Assumes nothing.
 use Rattle.std.specs.Prelude.{◌≡◌, true, false, ℕ, ◌<◌, ◌≤◌}
 use Rattle.records.specs.Mark.{has_mark}
-use Rattle.log.specs.Model.{Log, Workers, worker_count, checkpoint_count, checkpoint_of}
+use Rattle.event_log.specs.Model.{Log, Workers, worker_count, checkpoint_count, checkpoint_of}
 
 -- no worker's checkpoint with identifier t is withdrawn
 abbrev pub NoneWithdrawn : Workers → ℕ → Type 0

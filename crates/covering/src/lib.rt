@@ -3,8 +3,8 @@
 ghost use Rattle.std.specs.Prelude.{◌≡◌, false, ◌++◌, ◌<◌, ◌≤◌, length, drop};
 ghost use Rattle.ranges.specs.Fold.{any_below};
 ghost use Rattle.lent.specs.Lent.{or_else, word_of};
-ghost use Rattle.log.specs.Layout.{workers_of, log_of};
-ghost use Rattle.log.specs.Model.{worker_count, event_count};
+ghost use Rattle.event_log.specs.Layout.{workers_of, log_of};
+ghost use Rattle.event_log.specs.Model.{worker_count, event_count};
 ghost use Rattle.accept.specs.Refusal.{log_refusal};
 ghost use Rattle.causality.specs.Calls.{yes_unless};
 ghost use Rattle.choice.specs.Choice.{lost_at, worker_lost, is_startable};
@@ -23,7 +23,7 @@ fn is_set(log: &[u8], identifier: u32, w: usize, c: u32) -> bool
     if !may_choose(log, w, c) {
         return false;
     }
-    let point = log::checkpoint_at(log, w, c);
+    let point = event_log::checkpoint_at(log, w, c);
     point.identifier == identifier
 }
 
@@ -32,7 +32,7 @@ fn set_number(log: &[u8], identifier: u32, w: usize) -> u32
     requires { log_refusal log.now ≡ 0 }
     ensures answer { result ≡ first_set (workers_of log.now) identifier w }
 {
-    let last = log::checkpoint_count(log, w);
+    let last = event_log::checkpoint_count(log, w);
     let mut c: u32 = 0;
     while c <= last {
         if is_set(log, identifier, w, c) {
@@ -50,14 +50,14 @@ fn some_without_set(log: &[u8], identifier: u32, indices: &mut [u32]) -> bool
     ensures indices { result ≡ false → indices.new
         ≡ set_starts (workers_of log.now) identifier ++ drop (worker_count (workers_of log.now)) indices.old }
 {
-    let n = log::worker_count(log);
+    let n = event_log::worker_count(log);
     let mut w: usize = 0;
     while w < n {
         let c = set_number(log, identifier, w);
-        if log::checkpoint_count(log, w) < c {
+        if event_log::checkpoint_count(log, w) < c {
             return true;
         }
-        let point = log::checkpoint_at(log, w, c);
+        let point = event_log::checkpoint_at(log, w, c);
         indices[w] = point.index;
         w += 1;
     }
@@ -74,7 +74,7 @@ fn is_lost(log: &[u8], starts: &[u32], w: usize, k: u32) -> bool
     if x <= starts[w] {
         return false;
     }
-    let e = log::event_at(log, w, x);
+    let e = event_log::event_at(log, w, x);
     loses_send(e, starts[e.peer as usize])
 }
 
@@ -83,7 +83,7 @@ fn worker_lost(log: &[u8], starts: &[u32], w: usize) -> bool
     requires { (log_refusal log.now ≡ 0) × (worker_count (workers_of log.now) ≤ length starts.now) }
     ensures answer { result ≡ worker_lost (workers_of log.now) (cut_of_all (workers_of log.now)) starts.now w }
 {
-    let count = log::event_count(log, w);
+    let count = event_log::event_count(log, w);
     let mut k: u32 = 0;
     while k < count {
         if is_lost(log, starts, w, k) {
@@ -99,7 +99,7 @@ fn is_startable(log: &[u8], starts: &[u32]) -> bool
     requires { (log_refusal log.now ≡ 0) × (worker_count (workers_of log.now) ≤ length starts.now) }
     ensures answer { result ≡ is_startable (workers_of log.now) (cut_of_all (workers_of log.now)) starts.now }
 {
-    let n = log::worker_count(log);
+    let n = event_log::worker_count(log);
     let mut w: usize = 0;
     while w < n {
         if worker_lost(log, starts, w) {
@@ -115,7 +115,7 @@ fn is_covering(log: &[u8], identifier: u32) -> bool
     requires { log_refusal log.now ≡ 0 }
     ensures answer { result ≡ covering_set (workers_of log.now) identifier }
 {
-    let mut indices: [u32; log::MAX_WORKERS] = [0; log::MAX_WORKERS];
+    let mut indices: [u32; event_log::MAX_WORKERS] = [0; event_log::MAX_WORKERS];
     if some_without_set(log, identifier, &mut indices) {
         return false;
     }

@@ -6,7 +6,7 @@ use native.Mathlib.Omega.{arith}
 use Rattle.ranges.specs.Fold.{any_below, max_below}
 use Rattle.ranges.proofs.Any.{any_none, any_every, any_some, any_found, any_same}
 use Rattle.ranges.proofs.Max.{max_each}
-use Rattle.log.specs.Model.{Workers, worker_count, event_count}
+use Rattle.event_log.specs.Model.{Workers, worker_count, event_count}
 use Rattle.record_tests.specs.Records.{record_fault, record_count, worker_fault, some_record}
 use Rattle.event_pass.specs.Inner.Blocks.{fault_within, some_within}
 

@@ -12,7 +12,7 @@ use Rattle.ranges.specs.Fold.{any_below}
 use Rattle.ranges.proofs.Order.{lt_or_le, eq_or_ne}
 use Rattle.ranges.proofs.Any.{any_each, any_every, any_some, any_found}
 use Rattle.lent.specs.Lent.{at}
-use Rattle.log.specs.Model.{Workers, event_count, event_of}
+use Rattle.event_log.specs.Model.{Workers, event_count, event_of}
 use Rattle.record_tests.specs.Records.{any_fault, event_fault, record_fault}
 use Rattle.event_pass.specs.Inner.Message.{is_naming, names, own_fault}
 use Rattle.event_pass.specs.Inner.Blocks.{listed_fault, NamesAnother, Lists}

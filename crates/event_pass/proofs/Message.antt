@@ -8,9 +8,9 @@ use lib.Dec.{eqb, leb, ltb}
 use Rattle.ranges.proofs.Order.{lt_or_le}
 use Rattle.ranges.proofs.Bools.{or_false_left, or_false_right}
 use Rattle.records.specs.declared.Event.{Event}
-use Rattle.log.specs.Model.{Workers, worker_count, event_count, event_of}
+use Rattle.event_log.specs.Model.{Workers, worker_count, event_count, event_of}
 use Rattle.records.specs.Event.{is_send, is_receive}
-use Rattle.log.proofs.Read.{event_past}
+use Rattle.event_log.proofs.Read.{event_past}
 use Rattle.records.proofs.EventKinds.{no_send, not_send, not_receive}
 use Rattle.record_tests.specs.Records.{kind_fault, peer_fault, send_fault, field_fault, stamp_fault, send_of, source_fault, order_fault, any_fault}
 use Rattle.event_pass.specs.Inner.Message.{is_naming, own_fault, naming_fault}

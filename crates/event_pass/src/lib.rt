@@ -3,10 +3,10 @@
 ghost use Rattle.std.specs.Prelude.{◌≡◌, true, false, ℕ, ◌+◌, ◌<◌, ◌≤◌, min, length};
 ghost use Rattle.ranges.specs.Fold.{any_below, max_below};
 ghost use Rattle.lent.specs.Lent.{at};
-ghost use Rattle.log.specs.Header.{layout_refusal};
-ghost use Rattle.log.specs.Limits.{max_events};
-ghost use Rattle.log.specs.Model.{worker_count, event_count};
-ghost use Rattle.log.specs.Layout.{workers_of};
+ghost use Rattle.event_log.specs.Header.{layout_refusal};
+ghost use Rattle.event_log.specs.Limits.{max_events};
+ghost use Rattle.event_log.specs.Model.{worker_count, event_count};
+ghost use Rattle.event_log.specs.Layout.{workers_of};
 ghost use Rattle.record_tests.specs.Records.{record_fault, some_record};
 ghost use Rattle.event_pass.specs.Inner.Message.{names, own_fault, naming_fault};
 ghost use Rattle.event_pass.specs.Inner.Blocks.{block_size, fault_within, some_within, listed_fault, NamesAnother, Lists};
@@ -55,7 +55,7 @@ fn naming_fault(log: &[u8], w: usize, e: Event) -> bool
     if !records::is_receive(e) {
         return true;
     }
-    let send = log::worker_event(log, e.peer as usize, e.send);
+    let send = event_log::worker_event(log, e.peer as usize, e.send);
     if !records::is_send(send) {
         return true;
     }
@@ -101,13 +101,13 @@ fn list_naming(
     ensures found { result.fault ≡ true → any_below (record_fault 0 (workers_of log.now) w) end ≡ true }
     ensures listed { result.fault ≡ false → Lists (workers_of log.now) w first end list.new result.count }
 {
-    let start = log::event_start(log, w);
-    let events = log::event_count(log, w) as usize;
-    let mut before = log::event_at(log, w, first).stamp;
+    let start = event_log::event_start(log, w);
+    let events = event_log::event_count(log, w) as usize;
+    let mut before = event_log::event_at(log, w, first).stamp;
     let mut count: usize = 0;
     let mut k = first;
     while k < end {
-        let e = log::event_in(log, start, events, k as usize);
+        let e = event_log::event_in(log, start, events, k as usize);
         if own_fault(log, w, before, e) {
             return Listed { fault: true, count };
         }
@@ -127,11 +127,11 @@ fn listed_fault(log: &[u8], w: usize, list: &[u32; BLOCK as usize], count: usize
     requires { (layout_refusal log.now ≡ 0) × (count ≤ block_size) × ((j : ℕ) → j < count → NamesAnother (workers_of log.now) w (at list.now j)) }
     ensures answer { result ≡ any_below (listed_fault (workers_of log.now) w list.now) count }
 {
-    let start = log::event_start(log, w);
-    let events = log::event_count(log, w) as usize;
+    let start = event_log::event_start(log, w);
+    let events = event_log::event_count(log, w) as usize;
     let mut j: usize = 0;
     while j < count {
-        let e = log::event_in(log, start, events, list[j] as usize);
+        let e = event_log::event_in(log, start, events, list[j] as usize);
         if naming_fault(log, w, e) {
             return true;
         }
@@ -145,7 +145,7 @@ fn events_fault(log: &[u8], w: usize, first: u32) -> bool
     requires { (layout_refusal log.now ≡ 0) × (first ≤ max_events) × (fault_within first (workers_of log.now) w ≡ false) }
     ensures answer { result ≡ fault_within (first + block_size) (workers_of log.now) w }
 {
-    let count = log::event_count(log, w);
+    let count = event_log::event_count(log, w);
     if count <= first {
         return false;
     }
@@ -162,7 +162,7 @@ fn block_fault(log: &[u8], first: u32) -> bool
     requires { (layout_refusal log.now ≡ 0) × (first ≤ max_events) × (some_within first (workers_of log.now) ≡ false) }
     ensures answer { result ≡ some_within (first + block_size) (workers_of log.now) }
 {
-    let n = log::worker_count(log);
+    let n = event_log::worker_count(log);
     let mut w: usize = 0;
     while w < n {
         if events_fault(log, w, first) {
@@ -179,11 +179,11 @@ fn most_events(log: &[u8]) -> u32
     ensures answer { result ≡ max_below (event_count (workers_of log.now)) (worker_count (workers_of log.now)) }
     ensures few { result ≤ max_events }
 {
-    let n = log::worker_count(log);
+    let n = event_log::worker_count(log);
     let mut most: u32 = 0;
     let mut w: usize = 0;
     while w < n {
-        most = ranges::larger(most, log::event_count(log, w));
+        most = ranges::larger(most, event_log::event_count(log, w));
         w += 1;
     }
     most

@@ -12,11 +12,11 @@ use Rattle.ranges.specs.Fold.{sum_below}
 use Rattle.ranges.proofs.Order.{eq_or_ne}
 use Rattle.ranges.proofs.Sum.{sum_none, sum_more, sum_grows, sum_bound}
 use Rattle.lent.specs.Lent.{at}
-use Rattle.log.specs.Model.{Workers, worker_count, event_count}
-use Rattle.log.specs.Header.{layout_refusal}
-use Rattle.log.specs.Limits.{max_workers, max_events}
-use Rattle.log.specs.Layout.{workers_of}
-use Rattle.log.proofs.Read.{workers_few, count_field}
+use Rattle.event_log.specs.Model.{Workers, worker_count, event_count}
+use Rattle.event_log.specs.Header.{layout_refusal}
+use Rattle.event_log.specs.Limits.{max_workers, max_events}
+use Rattle.event_log.specs.Layout.{workers_of}
+use Rattle.event_log.proofs.Read.{workers_few, count_field}
 use Rattle.intervals.specs.declared.EventIndex.{EventIndex}
 use Rattle.intervals.specs.declared.IntervalNumber.{IntervalNumber}
 use Rattle.intervals.specs.Interval.{index, interval_at}

@@ -2,9 +2,9 @@
 // receive would take events times events.
 
 ghost use Rattle.std.specs.Prelude.{◌≡◌, ◌+◌, ◌*◌, ◌^◌, ◌<◌, ◌≤◌, min, length};
-ghost use Rattle.log.specs.Header.{layout_refusal};
-ghost use Rattle.log.specs.Model.{worker_count, event_count};
-ghost use Rattle.log.specs.Layout.{workers_of};
+ghost use Rattle.event_log.specs.Header.{layout_refusal};
+ghost use Rattle.event_log.specs.Model.{worker_count, event_count};
+ghost use Rattle.event_log.specs.Layout.{workers_of};
 ghost use Rattle.intervals.specs.Interval.{index, interval_at};
 ghost use Rattle.interval_blocks.specs.Inner.Blocks.{most_bits, blocks_of, first_block, Blocks};
 ghost use Rattle.interval_blocks.specs.Inner.Row.{Row};
@@ -16,7 +16,7 @@ fn blocks_of(log: &[u8], b: u32, w: usize) -> usize
     requires { (layout_refusal log.now ≡ 0) × (b ≤ most_bits) }
     ensures answer { result ≡ blocks_of (workers_of log.now) b w }
 {
-    (log::event_count(log, w) >> b) as usize + 1
+    (event_log::event_count(log, w) >> b) as usize + 1
 }
 
 // The blocks of all workers.
@@ -24,7 +24,7 @@ pub fn all_blocks(log: &[u8], b: u32) -> usize
     requires { (layout_refusal log.now ≡ 0) × (b ≤ most_bits) }
     ensures answer { result ≡ first_block (workers_of log.now) b (worker_count (workers_of log.now)) }
 {
-    let n = log::worker_count(log);
+    let n = event_log::worker_count(log);
     let mut blocks: usize = 0;
     let mut w: usize = 0;
     while w < n {
@@ -39,7 +39,7 @@ fn block_end(log: &[u8], b: u32, w: usize, j: usize) -> EventIndex
     requires { (layout_refusal log.now ≡ 0) × (b ≤ most_bits) × (j < blocks_of (workers_of log.now) b w) }
     ensures answer { result ≡ index (min ((j + 1) * 2 ^ b) (event_count (workers_of log.now) w)) }
 {
-    let count = log::event_count(log, w);
+    let count = event_log::event_count(log, w);
     let end = (j as u32 + 1) << b;
     if count < end {
         return EventIndex(count);
@@ -72,7 +72,7 @@ pub fn fill(log: &[u8], b: u32, firsts: &mut [u32], table: &mut [u16])
         × (first_block (workers_of log.now) b (worker_count (workers_of log.now)) ≤ length table.old) }
     ensures blocks { Blocks (workers_of log.now) b firsts.new table.new }
 {
-    let n = log::worker_count(log);
+    let n = event_log::worker_count(log);
     let mut first: usize = 0;
     let mut w: usize = 0;
     while w < n {

@@ -4,8 +4,8 @@ use mathlib.Core.Bool.{cond}
 use mathlib.Core.List.{List}
 use Prim.Native.Nat.{ℕ, ◌≤◌}
 use Rattle.lent.proofs.Lent.{or_else_zero}
-use Rattle.log.specs.Limits.{max_length}
-use Rattle.log.specs.Layout.{workers_of}
+use Rattle.event_log.specs.Limits.{max_length}
+use Rattle.event_log.specs.Layout.{workers_of}
 use Rattle.accept.specs.Refusal.{log_refusal, given}
 use Rattle.pack.specs.Packed.{packed_length}
 use Rattle.pack.specs.Calls.{room_refusal}

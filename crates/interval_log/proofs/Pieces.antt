@@ -15,7 +15,7 @@ use Rattle.records.specs.Event.{event_size, is_receive}
 use Rattle.records.specs.Checkpoint.{checkpoint_size}
 use Rattle.records.specs.Kind.{kind_number}
 use Rattle.records.specs.Mark.{with_mark}
-use Rattle.log.specs.Model.{Workers, event_count, event_of, checkpoint_count, checkpoint_of}
+use Rattle.event_log.specs.Model.{Workers, event_count, event_of, checkpoint_count, checkpoint_of}
 use Rattle.pack.specs.Packed.{event_bytes, checkpoint_bytes, event_at, checkpoint_at}
 use Rattle.pack.proofs.Records.{event_long, checkpoint_long}
 use Rattle.pack.proofs.Writing.{more_at}

@@ -5,9 +5,9 @@ ghost use Rattle.ranges.specs.Fold.{join_below};
 ghost use Rattle.lent.specs.Lent.{onto, unless_refused};
 ghost use Rattle.lent.specs.Inner.Overwrite.{overwrite};
 ghost use Rattle.bytes_le.specs.Little.{bytes_of};
-ghost use Rattle.log.specs.Limits.{max_length};
-ghost use Rattle.log.specs.Layout.{header_of, workers_of};
-ghost use Rattle.log.specs.Model.{worker_count, event_count, checkpoint_count};
+ghost use Rattle.event_log.specs.Limits.{max_length};
+ghost use Rattle.event_log.specs.Layout.{header_of, workers_of};
+ghost use Rattle.event_log.specs.Model.{worker_count, event_count, checkpoint_count};
 ghost use Rattle.accept.specs.Refusal.{given};
 ghost use Rattle.pack.specs.Packed.{event_bytes, event_at, checkpoint_at, sections_of, sections_size, entry_of, packed_length, packed};
 ghost use Rattle.pack.specs.Calls.{pack_answer};
@@ -67,12 +67,12 @@ fn write_events(
     ensures out { out.new ≡ overwrite at (join_below (event_at (interval_workers (workers_of log.now)) w)
         (event_count (interval_workers (workers_of log.now)) w)) out.old }
 {
-    let start = log::event_start(log, w);
-    let events = log::event_count(log, w) as usize;
+    let start = event_log::event_start(log, w);
+    let events = event_log::event_count(log, w) as usize;
     let mut place = at;
     let mut k: usize = 0;
     while k < events {
-        let e = log::event_in(log, start, events, k);
+        let e = event_log::event_in(log, start, events, k);
         k += 1;
         if !records::is_receive(e) {
             continue;
@@ -99,12 +99,12 @@ fn write_checkpoints(
     ensures out { out.new ≡ overwrite at (join_below (checkpoint_at (interval_workers (workers_of log.now)) w)
         (checkpoint_count (interval_workers (workers_of log.now)) w)) out.old }
 {
-    let count = log::checkpoint_count(log, w);
+    let count = event_log::checkpoint_count(log, w);
     let mut place = at;
     let mut k: u32 = 0;
     while k < count {
         k += 1;
-        let checkpoint = log::checkpoint_at(log, w, k);
+        let checkpoint = event_log::checkpoint_at(log, w, k);
         if checkpoint.withdrawn {
             continue;
         }
@@ -140,8 +140,8 @@ fn write_sections(log: &[u8], b: u32, firsts: &[u32], table: &[u16], out: &mut [
     ensures out { out.new ≡ overwrite (header_of (worker_count (workers_of log.now)))
         (join_below (sections_of (interval_workers (workers_of log.now))) (worker_count (workers_of log.now))) out.old }
 {
-    let n = log::worker_count(log);
-    let mut at = log::header_of(n as u32);
+    let n = event_log::worker_count(log);
+    let mut at = event_log::header_of(n as u32);
     let mut w: usize = 0;
     while w < n {
         at = write_worker(log, b, firsts, table, w, out, at);
@@ -156,14 +156,14 @@ fn write_entries(log: &[u8], b: u32, firsts: &[u32], table: &[u16], out: &mut [u
     ensures out { out.new ≡ overwrite (header_of 0)
         (join_below (entry_of (interval_workers (workers_of log.now))) (worker_count (workers_of log.now))) out.old }
 {
-    let n = log::worker_count(log);
-    let mut start = log::header_of(n as u32);
+    let n = event_log::worker_count(log);
+    let mut start = event_log::header_of(n as u32);
     let mut w: usize = 0;
     while w < n {
-        let last = EventIndex(log::event_count(log, w));
+        let last = EventIndex(event_log::event_count(log, w));
         let receives = interval_blocks::interval_of(log, b, firsts, table, w, last);
         let kept = interval_refusals::kept_count(log, w);
-        pack::write_entry(w, start, receives.0, kept, log::role_of(log, w), out);
+        pack::write_entry(w, start, receives.0, kept, event_log::role_of(log, w), out);
         start += records::EVENT_SIZE * (receives.0 as usize)
             + records::CHECKPOINT_SIZE * (kept as usize);
         w += 1;
@@ -178,10 +178,10 @@ fn write_with(log: &[u8], b: u32, size: usize, out: &mut [u8])
     requires { Space log.now size (length out.old) × (b ≤ most_bits) × (first_block (workers_of log.now) b (worker_count (workers_of log.now)) ≤ table_places) }
     ensures out { out.new ≡ onto (packed (interval_log (workers_of log.now))) out.old }
 {
-    let mut firsts = [0u32; log::MAX_WORKERS];
+    let mut firsts = [0u32; event_log::MAX_WORKERS];
     let mut table = [0u16; PLACES];
     interval_blocks::fill(log, b, &mut firsts, &mut table);
-    pack::write_fields(records::THIRD_FORM, log::worker_count(log), size, out);
+    pack::write_fields(records::THIRD_FORM, event_log::worker_count(log), size, out);
     write_entries(log, b, &firsts, &table, out);
     write_sections(log, b, &firsts, &table, out);
 }

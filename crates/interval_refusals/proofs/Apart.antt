@@ -12,7 +12,7 @@ use lib.Dec.{eqb}
 use Rattle.ranges.proofs.Any.{any_found, any_every}
 use Rattle.ranges.proofs.Sum.{sum_none}
 use Rattle.causality.specs.Cut.{receive_at}
-use Rattle.log.specs.Model.{Workers, checkpoint_count, checkpoint_of}
+use Rattle.event_log.specs.Model.{Workers, checkpoint_count, checkpoint_of}
 use Rattle.accept.specs.WellFormed.{WellFormed}
 use Rattle.intervals.specs.declared.EventIndex.{EventIndex}
 use Rattle.intervals.specs.declared.IntervalNumber.{IntervalNumber}

@@ -3,7 +3,7 @@
 use Rattle.std.specs.Prelude.{Bool, cond, ◌&&◌, List, [], ◌∷◌, ℕ, ◌+◌, eqb, length}
 use Rattle.ranges.specs.Fold.{any_below}
 use Rattle.lent.specs.Lent.{or_else, words_refusal, Left, leaves_both}
-use Rattle.log.specs.Model.{Workers, worker_count, checkpoint_count, checkpoint_of}
+use Rattle.event_log.specs.Model.{Workers, worker_count, checkpoint_count, checkpoint_of}
 use Rattle.accept.specs.Refusal.{Given}
 use Rattle.pack.specs.Packed.{packed_length, packed}
 use Rattle.pack.specs.Calls.{room_refusal}

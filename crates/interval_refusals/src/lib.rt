@@ -1,10 +1,10 @@
 // What the conversion of a log to an interval log refuses: test 28, and the length of the interval log for 26 and 25.
 
 ghost use Rattle.std.specs.Prelude.{◌≡◌, ◌≤◌};
-ghost use Rattle.log.specs.Header.{layout_refusal};
-ghost use Rattle.log.specs.Limits.{max_checkpoints};
-ghost use Rattle.log.specs.Layout.{workers_of};
-ghost use Rattle.log.specs.Model.{checkpoint_count};
+ghost use Rattle.event_log.specs.Header.{layout_refusal};
+ghost use Rattle.event_log.specs.Limits.{max_checkpoints};
+ghost use Rattle.event_log.specs.Layout.{workers_of};
+ghost use Rattle.event_log.specs.Model.{checkpoint_count};
 ghost use Rattle.accept.specs.Refusal.{log_refusal, given};
 ghost use Rattle.pack.specs.Packed.{sections_size, packed_length};
 ghost use Rattle.pack.specs.Calls.{pack_answer};
@@ -20,14 +20,14 @@ fn worker_crowded(log: &[u8], w: usize) -> bool
     requires { log_refusal log.now ≡ 0 }
     ensures answer { result ≡ worker_crowded (workers_of log.now) w }
 {
-    let count = log::checkpoint_count(log, w);
+    let count = event_log::checkpoint_count(log, w);
     let mut from = EventIndex(0);
     let mut number = IntervalNumber(0);
     let mut free = IntervalNumber(0);
     let mut k: u32 = 0;
     while k < count {
         k += 1;
-        let checkpoint = log::checkpoint_at(log, w, k);
+        let checkpoint = event_log::checkpoint_at(log, w, k);
         if checkpoint.withdrawn {
             continue;
         }
@@ -47,7 +47,7 @@ fn crowded(log: &[u8]) -> bool
     requires { log_refusal log.now ≡ 0 }
     ensures answer { result ≡ crowded (workers_of log.now) }
 {
-    let n = log::worker_count(log);
+    let n = event_log::worker_count(log);
     let mut w: usize = 0;
     while w < n {
         if worker_crowded(log, w) {
@@ -64,12 +64,12 @@ pub fn kept_count(log: &[u8], w: usize) -> u32
     ensures answer { result ≡ checkpoint_count (interval_workers (workers_of log.now)) w }
     ensures few { result ≤ max_checkpoints }
 {
-    let count = log::checkpoint_count(log, w);
+    let count = event_log::checkpoint_count(log, w);
     let mut kept: u32 = 0;
     let mut k: u32 = 0;
     while k < count {
         k += 1;
-        if log::checkpoint_at(log, w, k).withdrawn {
+        if event_log::checkpoint_at(log, w, k).withdrawn {
             continue;
         }
         kept += 1;
@@ -82,7 +82,7 @@ fn sections_size(log: &[u8], w: usize) -> usize
     requires { layout_refusal log.now ≡ 0 }
     ensures answer { result ≡ sections_size (interval_workers (workers_of log.now)) w }
 {
-    let last = EventIndex(log::event_count(log, w));
+    let last = EventIndex(event_log::event_count(log, w));
     let receives = intervals::advance(log, w, EventIndex(0), IntervalNumber(0), last);
     records::EVENT_SIZE * (receives.0 as usize)
         + records::CHECKPOINT_SIZE * (kept_count(log, w) as usize)
@@ -93,8 +93,8 @@ fn interval_length(log: &[u8]) -> usize
     requires { layout_refusal log.now ≡ 0 }
     ensures answer { result ≡ packed_length (interval_workers (workers_of log.now)) }
 {
-    let n = log::worker_count(log);
-    let mut length = log::header_of(n as u32);
+    let n = event_log::worker_count(log);
+    let mut length = event_log::header_of(n as u32);
     let mut w: usize = 0;
     while w < n {
         length += sections_size(log, w);

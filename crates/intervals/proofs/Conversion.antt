@@ -14,10 +14,10 @@ use Rattle.records.specs.declared.Event.{Event}
 use Rattle.records.specs.declared.Checkpoint.{Checkpoint}
 use Rattle.records.specs.Forms.{third_form, is_form, marks_withdrawn}
 use Rattle.records.specs.Mark.{with_mark}
-use Rattle.log.specs.Limits.{max_length}
-use Rattle.log.specs.Model.{Log, Workers, event_of, checkpoint_of}
-use Rattle.log.specs.Layout.{form_field, workers_of, log_of}
-use Rattle.log.proofs.Readable.{form_refused}
+use Rattle.event_log.specs.Limits.{max_length}
+use Rattle.event_log.specs.Model.{Log, Workers, event_of, checkpoint_of}
+use Rattle.event_log.specs.Layout.{form_field, workers_of, log_of}
+use Rattle.event_log.proofs.Readable.{form_refused}
 use Rattle.accept.specs.Refusal.{content_refusal, log_refusal}
 use Rattle.accept.proofs.Accepted.{accepted_layout, well_formed}
 use Rattle.pack.specs.Packed.{packed_length, packed}

@@ -14,8 +14,8 @@ use Rattle.ranges.proofs.Tabulate.{length_tabulate, get_d_tabulate}
 use Rattle.ranges.proofs.Keep.{keep_length, keep_at, keep_from}
 use Rattle.records.specs.Event.{no_event, is_receive, received}
 use Rattle.records.specs.Checkpoint.{initial}
-use Rattle.log.specs.Model.{Workers, Worker, no_worker, worker_count, worker, role_of, event_count, event_of, checkpoint_count, checkpoint_of}
-use Rattle.log.proofs.Read.{worker_past, count_past, checkpoints_past, role_past}
+use Rattle.event_log.specs.Model.{Workers, Worker, no_worker, worker_count, worker, role_of, event_count, event_of, checkpoint_count, checkpoint_of}
+use Rattle.event_log.proofs.Read.{worker_past, count_past, checkpoints_past, role_past}
 use Rattle.repeats.proofs.Places.{received_small}
 use Rattle.pack.proofs.Writing.{Limited}
 use Rattle.causality.specs.Cut.{receive_at}

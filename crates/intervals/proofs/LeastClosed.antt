@@ -16,8 +16,8 @@ use Rattle.ranges.proofs.Tabulate.{length_tabulate, get_d_tabulate, get_d_tabula
 use Rattle.records.specs.declared.Event.{Event}
 use Rattle.records.specs.Event.{is_receive, received}
 use Rattle.records.proofs.EventKinds.{not_receive}
-use Rattle.log.specs.Model.{Workers, worker_count, event_count, event_of, IsEvent}
-use Rattle.log.proofs.Read.{count_past}
+use Rattle.event_log.specs.Model.{Workers, worker_count, event_count, event_of, IsEvent}
+use Rattle.event_log.proofs.Read.{count_past}
 use Rattle.record_tests.specs.Records.{send_of}
 use Rattle.repeats.proofs.Places.{received_one, received_none}
 use Rattle.accept.specs.WellFormed.{WellFormed}

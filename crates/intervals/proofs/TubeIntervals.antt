@@ -5,7 +5,7 @@ use mathlib.Core.List.{[], ◌∷◌}
 use Rattle.ranges.specs.Fold.{max_below, sum_below, tabulate, keep_below, sweep}
 use Rattle.records.specs.declared.Kind.TheVariants.{Unlogged}
 use Rattle.records.specs.Event.{is_unlogged, is_logged, is_receive, received}
-use Rattle.log.specs.Model.{Workers, worker_count, worker, role_of, event_count, event_of, checkpoint_count, checkpoint_of}
+use Rattle.event_log.specs.Model.{Workers, worker_count, worker, role_of, event_count, event_of, checkpoint_count, checkpoint_of}
 use Rattle.accept.specs.Tube.{tube_log}
 use Rattle.pack.specs.Packed.{sections_size, start_of, packed_length}
 use Rattle.causality.specs.Cut.{named_of, component, receive_at, receives_of}

@@ -1,7 +1,7 @@
 -- What the bytes that the conversion writes are.
 -- Assumes nothing.
 use Rattle.std.specs.Prelude.{◌≡◌, List, ℕ, length}
-use Rattle.log.specs.Layout.{workers_of, log_of}
+use Rattle.event_log.specs.Layout.{workers_of, log_of}
 use Rattle.accept.specs.Refusal.{log_refusal}
 use Rattle.pack.specs.Packed.{packed_length}
 use Rattle.intervals.specs.Interval.{interval_workers, interval_log}

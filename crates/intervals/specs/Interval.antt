@@ -6,7 +6,7 @@ use Rattle.records.specs.declared.Event.{Event}
 use Rattle.records.specs.declared.Checkpoint.{Checkpoint}
 use Rattle.records.specs.Forms.{third_form}
 use Rattle.records.specs.Event.{is_receive}
-use Rattle.log.specs.Model.{Log, Workers, Worker, worker_count, role_of, event_count, event_of, checkpoint_count, checkpoint_of}
+use Rattle.event_log.specs.Model.{Log, Workers, Worker, worker_count, role_of, event_count, event_of, checkpoint_count, checkpoint_of}
 use Rattle.causality.specs.Cut.{receive_at}
 use Rattle.intervals.specs.declared.EventIndex.{EventIndex}
 use Rattle.intervals.specs.declared.IntervalNumber.{IntervalNumber}

@@ -4,7 +4,7 @@
 use Rattle.std.specs.Prelude.{◌≡◌, List, ℕ, ◌<◌, ◌≤◌, length}
 use Rattle.ranges.specs.Fold.{tabulate}
 use Rattle.lent.specs.Lent.{at}
-use Rattle.log.specs.Model.{Workers, worker_count, event_count, event_of, IsEvent}
+use Rattle.event_log.specs.Model.{Workers, worker_count, event_count, event_of, IsEvent}
 use Rattle.causality.specs.Cut.{receives_of}
 use Rattle.lower_cut.specs.Figure2.{lower_cut}
 use Rattle.intervals.specs.declared.IntervalNumber.{IntervalNumber}

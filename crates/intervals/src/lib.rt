@@ -1,9 +1,9 @@
 // State intervals: the interval log of a log, its interval cuts, and the one function that counts intervals.
 
 ghost use Rattle.std.specs.Prelude.{◌≡◌, ◌≤◌};
-ghost use Rattle.log.specs.Header.{layout_refusal};
-ghost use Rattle.log.specs.Model.{event_count};
-ghost use Rattle.log.specs.Layout.{workers_of};
+ghost use Rattle.event_log.specs.Header.{layout_refusal};
+ghost use Rattle.event_log.specs.Model.{event_count};
+ghost use Rattle.event_log.specs.Layout.{workers_of};
 ghost use Rattle.intervals.specs.Interval.{interval_at};
 
 // The index of an event of a worker, and the number of an interval of a worker: the one never stands for the other.
@@ -24,13 +24,13 @@ pub fn advance(
     requires { (layout_refusal log.now ≡ 0) × (from.0 ≤ to.0) × (to.0 ≤ event_count (workers_of log.now) w) × (at ≡ interval_at (workers_of log.now) w from) }
     ensures answer { result ≡ interval_at (workers_of log.now) w to }
 {
-    let start = log::event_start(log, w);
-    let events = log::event_count(log, w) as usize;
+    let start = event_log::event_start(log, w);
+    let events = event_log::event_count(log, w) as usize;
     let end = to.0;
     let mut number = at.0;
     let mut k = from.0;
     while k < end {
-        number += records::received(log::event_in(log, start, events, k as usize));
+        number += records::received(event_log::event_in(log, start, events, k as usize));
         k += 1;
     }
     IntervalNumber(number)

@@ -13,7 +13,7 @@ use lib.Seq.{take_at, take_all, length-take-le}
 use Rattle.ranges.proofs.Bools.{or_false_left, or_false_right}
 use Rattle.ranges.proofs.Order.{lt_or_le}
 use Rattle.ranges.proofs.Sweep.{sweep_none}
-use Rattle.log.specs.Model.{Workers, worker_count}
+use Rattle.event_log.specs.Model.{Workers, worker_count}
 use Rattle.accept.specs.WellFormed.{WellFormed}
 use Rattle.lent.specs.Lent.{at}
 use Rattle.causality.specs.Inner.Row.{largest_after, named_row}

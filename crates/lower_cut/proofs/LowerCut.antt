@@ -11,8 +11,8 @@ use Rattle.ranges.specs.Fold.{sweep}
 use Rattle.ranges.proofs.Tabulate.{get_d_replicate_all}
 use Rattle.ranges.proofs.Store.{set_cases}
 use Rattle.ranges.proofs.Sweep.{sweep_keeps}
-use Rattle.log.specs.Model.{Workers, worker_count, event_of, IsEvent}
-use Rattle.log.proofs.Read.{worker_within}
+use Rattle.event_log.specs.Model.{Workers, worker_count, event_of, IsEvent}
+use Rattle.event_log.proofs.Read.{worker_within}
 use Rattle.accept.specs.WellFormed.{WellFormed}
 use Rattle.causality.specs.Happened.{HappenedBefore, earlier, through}
 use Rattle.lent.specs.Lent.{at}

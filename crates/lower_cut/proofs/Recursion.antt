@@ -14,7 +14,7 @@ use lib.Seq.{get_or-set_same}
 use Rattle.ranges.specs.Fold.{sweep}
 use Rattle.ranges.proofs.Store.{set_grows}
 use Rattle.ranges.proofs.Sweep.{sweep_keeps, sweep_same}
-use Rattle.log.specs.Model.{Workers, worker_count, event_of, IsEvent}
+use Rattle.event_log.specs.Model.{Workers, worker_count, event_of, IsEvent}
 use Rattle.accept.specs.WellFormed.{WellFormed}
 use Rattle.causality.specs.Happened.{HappenedBefore}
 use Rattle.lent.specs.Lent.{at}

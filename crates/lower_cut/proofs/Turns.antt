@@ -17,8 +17,8 @@ use Rattle.ranges.proofs.Max.{max_none, max_least}
 use Rattle.ranges.proofs.Order.{lt_or_le, eq_or_ne}
 use Rattle.ranges.proofs.Store.{set_cases, set_grows}
 use Rattle.ranges.proofs.Sweep.{sweep_none, sweep_more}
-use Rattle.log.specs.Model.{Workers, worker_count, event_count, event_of, IsEvent}
-use Rattle.log.proofs.Read.{worker_within}
+use Rattle.event_log.specs.Model.{Workers, worker_count, event_count, event_of, IsEvent}
+use Rattle.event_log.proofs.Read.{worker_within}
 use Rattle.accept.specs.WellFormed.{WellFormed}
 use Rattle.lent.specs.Lent.{at}
 use Rattle.causality.specs.Cut.{named_of, component, lacks, IsCut}

@@ -13,10 +13,10 @@ use lib.Seq.{get_or-set_same}
 use Rattle.ranges.specs.Fold.{sum_below, sweep}
 use Rattle.ranges.proofs.Sum.{sum_bound, sum_le, sum_lt}
 use Rattle.ranges.proofs.Sweep.{sweep_keeps}
-use Rattle.log.specs.Limits.{max_workers, max_events}
-use Rattle.log.specs.Model.{Workers, worker_count, event_of, IsEvent}
+use Rattle.event_log.specs.Limits.{max_workers, max_events}
+use Rattle.event_log.specs.Model.{Workers, worker_count, event_of, IsEvent}
 use Rattle.records.specs.Event.{is_receive, received}
-use Rattle.log.proofs.Read.{worker_within}
+use Rattle.event_log.proofs.Read.{worker_within}
 use Rattle.accept.specs.WellFormed.{WellFormed}
 use Rattle.lent.specs.Lent.{at}
 use Rattle.causality.specs.Cut.{component, IsCut, Consistent, receive_at, receives_of, receives_within}

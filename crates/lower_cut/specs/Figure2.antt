@@ -2,7 +2,7 @@
 -- Assumes nothing.
 use Rattle.std.specs.Prelude.{Bool, true, false, List, ℕ, zero, suc, ◌+◌, ltb, set, replicate}
 use Rattle.ranges.specs.Fold.{sweep}
-use Rattle.log.specs.Model.{Workers, worker_count, event_of}
+use Rattle.event_log.specs.Model.{Workers, worker_count, event_of}
 use Rattle.lent.specs.Lent.{at}
 use Rattle.causality.specs.Cut.{component}
 

@@ -1,9 +1,9 @@
 // The lower cut, found as in the paper's Figure 2.
 
 ghost use Rattle.std.specs.Prelude.{◌≡◌, false, ◌+◌, ◌<◌, ◌≤◌, length};
-ghost use Rattle.log.specs.Layout.{workers_of};
-ghost use Rattle.log.specs.Limits.{max_workers};
-ghost use Rattle.log.specs.Model.{worker_count, event_count};
+ghost use Rattle.event_log.specs.Layout.{workers_of};
+ghost use Rattle.event_log.specs.Limits.{max_workers};
+ghost use Rattle.event_log.specs.Model.{worker_count, event_count};
 ghost use Rattle.accept.specs.Refusal.{log_refusal};
 ghost use Rattle.causality.specs.Inner.Row.{named_row};
 ghost use Rattle.lower_cut.specs.Figure2.{visit_at};
@@ -101,7 +101,7 @@ pub fn visit(
     if first == event {
         return total;
     }
-    let n = log::worker_count(log);
+    let n = event_log::worker_count(log);
     let below = rows_below(rows.len(), n);
     let mut workers: [u8; TURNS] = [0; TURNS];
     let mut events: [u32; TURNS] = [0; TURNS];

@@ -4,8 +4,8 @@ mod figure2;
 
 ghost use Rattle.std.specs.Prelude.{◌≡◌, ◌<◌, ◌≤◌, length};
 ghost use Rattle.lent.specs.Lent.{onto, unless_refused, KeptIfRefused};
-ghost use Rattle.log.specs.Layout.{workers_of};
-ghost use Rattle.log.specs.Model.{worker_count, IsEvent};
+ghost use Rattle.event_log.specs.Layout.{workers_of};
+ghost use Rattle.event_log.specs.Model.{worker_count, IsEvent};
 ghost use Rattle.accept.specs.Refusal.{log_refusal, given};
 ghost use Rattle.lower_cut.specs.Figure2.{figure2, lower_cut};
 ghost use Rattle.refusals.specs.Refusals.{search_refusal};
@@ -106,7 +106,7 @@ pub fn lower_cut(
             workers: 0,
         };
     }
-    let n = log::worker_count(log);
+    let n = event_log::worker_count(log);
     found_cut(log, worker as usize, event, &mut words[..n], scratch)
 }
 

@@ -7,9 +7,9 @@ use borrow.Author.Tests.{ltb-false, eq-eqb}
 use lib.Dec.{ltb}
 use Rattle.lent.proofs.Lent.{peel, or_else_zero}
 use Rattle.bytes_le.specs.Little.{Bytes}
-use Rattle.log.specs.Limits.{max_length}
-use Rattle.log.specs.Layout.{workers_of}
-use Rattle.log.specs.Model.{Workers}
+use Rattle.event_log.specs.Limits.{max_length}
+use Rattle.event_log.specs.Layout.{workers_of}
+use Rattle.event_log.specs.Model.{Workers}
 use Rattle.accept.specs.Refusal.{log_refusal, given}
 use Rattle.accept.proofs.Accepted.{accepted_layout, known_kind, well_formed}
 use Rattle.pack.specs.Packed.{packed_length}

@@ -11,12 +11,12 @@ use Rattle.ranges.proofs.Any.{any_every}
 use Rattle.ranges.proofs.Tabulate.{tabulate_same}
 use Rattle.lent.proofs.Lent.{or_else_zero, or_else_second, named_words}
 use Rattle.lent.specs.Lent.{unless_refused}
-use Rattle.log.specs.Limits.{max_events, max_checkpoints, max_role}
-use Rattle.log.specs.Header.{layout_refusal}
-use Rattle.log.specs.Model.{Log, Workers, worker_count, role_of, event_count, checkpoint_count}
-use Rattle.log.specs.Layout.{size_field, field, event_count_field, checkpoint_count_field, event_section, checkpoint_section, worker_of, workers_of, log_of}
-use Rattle.log.proofs.Readable.{readable, length_passed}
-use Rattle.log.proofs.Read.{size_read, workers_few, count_read, checkpoints_read, role_read, count_field, checkpoints_field, role_field_lem}
+use Rattle.event_log.specs.Limits.{max_events, max_checkpoints, max_role}
+use Rattle.event_log.specs.Header.{layout_refusal}
+use Rattle.event_log.specs.Model.{Log, Workers, worker_count, role_of, event_count, checkpoint_count}
+use Rattle.event_log.specs.Layout.{size_field, field, event_count_field, checkpoint_count_field, event_section, checkpoint_section, worker_of, workers_of, log_of}
+use Rattle.event_log.proofs.Readable.{readable, length_passed}
+use Rattle.event_log.proofs.Read.{size_read, workers_few, count_read, checkpoints_read, role_read, count_field, checkpoints_field, role_field_lem}
 use Rattle.accept.specs.Refusal.{content_refusal, log_refusal}
 use Rattle.accept.proofs.Accepted.{accepted_layout}
 use Rattle.pack.specs.Packed.{event_at, checkpoint_at, packed_length, packed}

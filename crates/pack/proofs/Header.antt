@@ -13,9 +13,9 @@ use Rattle.bytes_le.specs.Little.{le, bytes_of, Bytes}
 use Rattle.bytes_le.proofs.Little.{le_front, le_behind, length_bytes, last_read, bytes_bytes, bytes_append, bytes_join}
 use Rattle.records.specs.Event.{event_size}
 use Rattle.records.specs.Checkpoint.{checkpoint_size}
-use Rattle.log.specs.Model.{Log, Workers, worker_count, event_count, checkpoint_count}
-use Rattle.log.specs.Layout.{form_field, size_field, length_field, header_of, field}
-use Rattle.log.specs.Layout.{section}
+use Rattle.event_log.specs.Model.{Log, Workers, worker_count, event_count, checkpoint_count}
+use Rattle.event_log.specs.Layout.{form_field, size_field, length_field, header_of, field}
+use Rattle.event_log.specs.Layout.{section}
 use Rattle.pack.specs.Packed.{number_at, event_at, checkpoint_at, sections_of, sections_size, start_of, numbers_of, entry_of, packed_length, fields_of, packed}
 use Rattle.pack.proofs.Records.{pieces_long, piece_read, events_all_long, checkpoints_all_long, sections_all_long, sections_all_bytes}
 

@@ -25,12 +25,12 @@ use Rattle.records.specs.Event.{no_event, event_size, event_record}
 use Rattle.records.specs.Checkpoint.{initial, checkpoint_size, identifier_word, checkpoint_record}
 use Rattle.records.proofs.EventKinds.{number_read, number_small}
 use Rattle.records.proofs.Marked.{identifier_low, word_back, identifier_read, mark_read}
-use Rattle.log.specs.Limits.{max_workers, max_events, max_checkpoints, max_role}
-use Rattle.log.specs.Header.{form_fault, size_fault, header_fault, limit_fault, outside, section_fault, entry_fault, some_entry, entries_refusal, header_refusal}
-use Rattle.log.specs.Model.{Log, Workers, no_worker, worker_count, worker, role_of, event_count, event_of, checkpoint_count, checkpoint_of}
-use Rattle.log.specs.Layout.{form_field, size_field, header_of, field, event_count_field, event_offset_field, checkpoint_count_field, checkpoint_offset_field, role_field}
-use Rattle.log.specs.Layout.{event_section, checkpoint_section, worker_of, workers_of, log_of}
-use Rattle.log.proofs.Read.{worker_within, worker_within', size_read, role_read, count_read, checkpoints_read, event_read, checkpoint_read}
+use Rattle.event_log.specs.Limits.{max_workers, max_events, max_checkpoints, max_role}
+use Rattle.event_log.specs.Header.{form_fault, size_fault, header_fault, limit_fault, outside, section_fault, entry_fault, some_entry, entries_refusal, header_refusal}
+use Rattle.event_log.specs.Model.{Log, Workers, no_worker, worker_count, worker, role_of, event_count, event_of, checkpoint_count, checkpoint_of}
+use Rattle.event_log.specs.Layout.{form_field, size_field, header_of, field, event_count_field, event_offset_field, checkpoint_count_field, checkpoint_offset_field, role_field}
+use Rattle.event_log.specs.Layout.{event_section, checkpoint_section, worker_of, workers_of, log_of}
+use Rattle.event_log.proofs.Read.{worker_within, worker_within', size_read, role_read, count_read, checkpoints_read, event_read, checkpoint_read}
 use Rattle.pack.specs.Packed.{event_bytes, checkpoint_bytes, event_at, checkpoint_at, sections_size, start_of, numbers_of, packed_length, packed}
 use Rattle.pack.proofs.Records.{piece_read, event_long, checkpoint_long, section_bytes}
 use Rattle.pack.proofs.Header.{form_field_lem, size_field_lem, length_field_lem, entry_field, packed_all_long, events_at, checkpoints_at}

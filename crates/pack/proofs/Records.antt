@@ -18,13 +18,13 @@ use Rattle.bytes_le.proofs.Little.{le_front, le_behind, length_bytes, bytes_byte
 use Rattle.records.specs.declared.Event.{Event}
 use Rattle.records.specs.declared.Checkpoint.{Checkpoint}
 use Rattle.records.specs.declared.Kind.TheVariants.{Rest}
-use Rattle.log.specs.Header.{layout_refusal}
-use Rattle.log.specs.Layout.{form_field, size_field, field, event_count_field, checkpoint_count_field, section, event_section, checkpoint_section, workers_of}
+use Rattle.event_log.specs.Header.{layout_refusal}
+use Rattle.event_log.specs.Layout.{form_field, size_field, field, event_count_field, checkpoint_count_field, section, event_section, checkpoint_section, workers_of}
 use Rattle.records.specs.Event.{event_size, kind_byte, event_record}
 use Rattle.records.specs.Checkpoint.{checkpoint_size, identifier_word, checkpoint_record}
-use Rattle.log.specs.Model.{Workers, worker_count, event_count, event_of, checkpoint_count, checkpoint_of}
-use Rattle.log.proofs.Readable.{readable}
-use Rattle.log.proofs.Read.{section_length, size_read, count_read, checkpoints_read, event_read, checkpoint_read}
+use Rattle.event_log.specs.Model.{Workers, worker_count, event_count, event_of, checkpoint_count, checkpoint_of}
+use Rattle.event_log.proofs.Readable.{readable}
+use Rattle.event_log.proofs.Read.{section_length, size_read, count_read, checkpoints_read, event_read, checkpoint_read}
 use Rattle.records.proofs.EventKinds.{kind_table}
 use Rattle.records.proofs.Marked.{word_back}
 use Rattle.pack.specs.Inner.Room.{KnownKinds}

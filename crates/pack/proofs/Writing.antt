@@ -15,13 +15,13 @@ use Rattle.lent.specs.Inner.Overwrite.{overwrite}
 use Rattle.lent.proofs.Overwrite.{overwrite_none, overwrite_more}
 use Rattle.bytes_le.specs.Little.{bytes_of, Bytes}
 use Rattle.bytes_le.proofs.Little.{length_bytes}
-use Rattle.log.specs.Model.{Log, Workers, worker_count, event_count, checkpoint_count}
-use Rattle.log.specs.Header.{layout_refusal}
-use Rattle.log.specs.Limits.{max_length, max_workers, max_events, max_checkpoints}
-use Rattle.log.specs.Layout.{header_of, event_section, checkpoint_section, workers_of}
+use Rattle.event_log.specs.Model.{Log, Workers, worker_count, event_count, checkpoint_count}
+use Rattle.event_log.specs.Header.{layout_refusal}
+use Rattle.event_log.specs.Limits.{max_length, max_workers, max_events, max_checkpoints}
+use Rattle.event_log.specs.Layout.{header_of, event_section, checkpoint_section, workers_of}
 use Rattle.records.specs.Event.{event_size}
 use Rattle.records.specs.Checkpoint.{checkpoint_size}
-use Rattle.log.proofs.Read.{workers_few, count_field, checkpoints_field}
+use Rattle.event_log.proofs.Read.{workers_few, count_field, checkpoints_field}
 use Rattle.pack.specs.Packed.{field_bytes, sections_of, sections_size, start_of, entry_of, packed_length, fields_of, packed}
 use Rattle.pack.specs.Inner.Room.{KnownKinds, Room}
 use Rattle.pack.proofs.Records.{events_long_lem, checkpoints_long, sections_bytes}

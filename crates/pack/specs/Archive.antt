@@ -2,8 +2,8 @@
 -- Assumes nothing.
 use Rattle.std.specs.Prelude.{◌≡◌, List, ℕ, ◌<◌, ◌≤◌, length}
 use Rattle.bytes_le.specs.Little.{Bytes}
-use Rattle.log.specs.Limits.{max_length}
-use Rattle.log.specs.Layout.{form_field, size_field, field, role_field, event_section, checkpoint_section, workers_of, log_of}
+use Rattle.event_log.specs.Limits.{max_length}
+use Rattle.event_log.specs.Layout.{form_field, size_field, field, role_field, event_section, checkpoint_section, workers_of, log_of}
 use Rattle.accept.specs.Refusal.{log_refusal}
 use Rattle.pack.specs.Packed.{packed_length, packed}
 

@@ -2,8 +2,8 @@
 -- Assumes nothing.
 use Rattle.std.specs.Prelude.{cond, List, [], ◌∷◌, ℕ, eqb, ltb, length}
 use Rattle.lent.specs.Lent.{or_else, words_refusal, Left, leaves_both}
-use Rattle.log.specs.Limits.{max_length}
-use Rattle.log.specs.Model.{Workers, Log}
+use Rattle.event_log.specs.Limits.{max_length}
+use Rattle.event_log.specs.Model.{Workers, Log}
 use Rattle.accept.specs.Refusal.{Given}
 use Rattle.pack.specs.declared.Packed.{Packed}
 use Rattle.pack.specs.Packed.{packed_length, packed}

@@ -8,8 +8,8 @@ use Rattle.records.specs.declared.Event.{Event}
 use Rattle.records.specs.declared.Checkpoint.{Checkpoint}
 use Rattle.records.specs.Kind.{kind_number}
 use Rattle.records.specs.Mark.{with_mark}
-use Rattle.log.specs.Model.{Log, Workers, worker_count, role_of, event_count, event_of, checkpoint_count, checkpoint_of}
-use Rattle.log.specs.Layout.{header_of}
+use Rattle.event_log.specs.Model.{Log, Workers, worker_count, role_of, event_count, event_of, checkpoint_count, checkpoint_of}
+use Rattle.event_log.specs.Layout.{header_of}
 use Rattle.records.specs.Event.{event_size}
 use Rattle.records.specs.Checkpoint.{checkpoint_size}
 

@@ -4,10 +4,10 @@ ghost use Rattle.std.specs.Prelude.{◌≡◌, ◌+◌, ◌*◌, ◌<◌, ◌≤
 ghost use Rattle.ranges.specs.Fold.{join_below};
 ghost use Rattle.lent.specs.Lent.{unless_refused};
 ghost use Rattle.lent.specs.Inner.Overwrite.{overwrite};
-ghost use Rattle.log.specs.Header.{layout_refusal};
-ghost use Rattle.log.specs.Limits.{max_length, max_workers};
-ghost use Rattle.log.specs.Layout.{header_of, workers_of, log_of};
-ghost use Rattle.log.specs.Model.{worker_count};
+ghost use Rattle.event_log.specs.Header.{layout_refusal};
+ghost use Rattle.event_log.specs.Limits.{max_length, max_workers};
+ghost use Rattle.event_log.specs.Layout.{header_of, workers_of, log_of};
+ghost use Rattle.event_log.specs.Model.{worker_count};
 ghost use Rattle.accept.specs.Refusal.{given};
 ghost use Rattle.pack.specs.Packed.{field_bytes, number_at, entry_bytes, sections_of, sections_size, start_of, entry_of, packed_length, packed};
 ghost use Rattle.pack.specs.Inner.Room.{Room};
@@ -26,7 +26,7 @@ fn sections_size(log: &[u8], w: usize) -> usize
     requires { (layout_refusal log.now ≡ 0) × (w < worker_count (workers_of log.now)) }
     ensures answer { result ≡ sections_size (workers_of log.now) w }
 {
-    log::events_part(log, w).len() + log::checkpoints_part(log, w).len()
+    event_log::events_part(log, w).len() + event_log::checkpoints_part(log, w).len()
 }
 
 // The length of the packed log.
@@ -34,8 +34,8 @@ fn packed_length(log: &[u8]) -> usize
     requires { layout_refusal log.now ≡ 0 }
     ensures answer { result ≡ packed_length (workers_of log.now) }
 {
-    let n = log::worker_count(log);
-    let mut at = log::header_of(n as u32);
+    let n = event_log::worker_count(log);
+    let mut at = event_log::header_of(n as u32);
     let mut w: usize = 0;
     while w < n {
         at += sections_size(log, w);
@@ -48,7 +48,7 @@ fn packed_length(log: &[u8]) -> usize
 pub fn room_refusal(size: usize, lent: usize) -> u32
     ensures answer { result ≡ room_refusal size lent }
 {
-    if log::MAX_LENGTH < size {
+    if event_log::MAX_LENGTH < size {
         return 26;
     }
     if lent < size {
@@ -97,7 +97,7 @@ pub fn write_entry(w: usize, start: usize, events: u32, checkpoints: u32, role: 
 {
     let behind = start + records::EVENT_SIZE * (events as usize);
     let numbers = [events, start as u32, checkpoints, behind as u32, role];
-    write_numbers(numbers, out, log::header_of(w as u32));
+    write_numbers(numbers, out, event_log::header_of(w as u32));
 }
 
 // Writes the entry of each worker.
@@ -105,13 +105,20 @@ fn write_entries(log: &[u8], out: &mut [u8])
     requires { Room log.now (length out.old) }
     ensures out { out.new ≡ overwrite (header_of 0) (join_below (entry_of (workers_of log.now)) (worker_count (workers_of log.now))) out.old }
 {
-    let n = log::worker_count(log);
-    let mut start = log::header_of(n as u32);
+    let n = event_log::worker_count(log);
+    let mut start = event_log::header_of(n as u32);
     let mut w: usize = 0;
     while w < n {
-        let events = log::event_count(log, w);
-        let checkpoints = log::checkpoint_count(log, w);
-        write_entry(w, start, events, checkpoints, log::role_of(log, w), out);
+        let events = event_log::event_count(log, w);
+        let checkpoints = event_log::checkpoint_count(log, w);
+        write_entry(
+            w,
+            start,
+            events,
+            checkpoints,
+            event_log::role_of(log, w),
+            out,
+        );
         start += sections_size(log, w);
         w += 1;
     }
@@ -123,8 +130,8 @@ fn copy_sections(log: &[u8], w: usize, out: &mut [u8], at: usize) -> usize
     ensures answer { result ≡ start_of (workers_of log.now) (w + 1) }
     ensures out { out.new ≡ overwrite at (sections_of (workers_of log.now) w) out.old }
 {
-    let events = log::events_part(log, w);
-    let checkpoints = log::checkpoints_part(log, w);
+    let events = event_log::events_part(log, w);
+    let checkpoints = event_log::checkpoints_part(log, w);
     let behind = at + events.len();
     lent::copy_bytes(events, out, at);
     lent::copy_bytes(checkpoints, out, behind);
@@ -137,8 +144,8 @@ fn write_sections(log: &[u8], out: &mut [u8])
     ensures out { out.new ≡ overwrite (header_of (worker_count (workers_of log.now)))
         (join_below (sections_of (workers_of log.now)) (worker_count (workers_of log.now))) out.old }
 {
-    let n = log::worker_count(log);
-    let mut at = log::header_of(n as u32);
+    let n = event_log::worker_count(log);
+    let mut at = event_log::header_of(n as u32);
     let mut w: usize = 0;
     while w < n {
         at = copy_sections(log, w, out, at);
@@ -161,7 +168,12 @@ pub fn pack(log: &[u8], others: u32, out: &mut [u8]) -> Packed
         };
     }
     let size = packed_length(log);
-    write_fields(log::form_field(log), log::worker_count(log), size, out);
+    write_fields(
+        event_log::form_field(log),
+        event_log::worker_count(log),
+        size,
+        out,
+    );
     write_entries(log, out);
     write_sections(log, out);
     Packed {

@@ -11,9 +11,9 @@ use lib.ListN.{length, take, drop, get_or}
 use lib.Seq.{take_at, drop-length}
 use Rattle.ranges.proofs.Order.{eq_or_ne}
 use Rattle.ranges.proofs.Tabulate.{length_tabulate}
-use Rattle.log.specs.Limits.{max_workers}
-use Rattle.log.specs.Layout.{workers_of}
-use Rattle.log.specs.Model.{Workers, worker_count}
+use Rattle.event_log.specs.Limits.{max_workers}
+use Rattle.event_log.specs.Layout.{workers_of}
+use Rattle.event_log.specs.Model.{Workers, worker_count}
 use Rattle.lent.proofs.Lent.{words_enough, or_else_first}
 use Rattle.lent.specs.Lent.{or_else, words_refusal, onto, unless_refused}
 use Rattle.accept.specs.Refusal.{given}

@@ -4,7 +4,7 @@ use mathlib.Core.Path.{◌≡◌}
 use mathlib.Core.List.{List}
 use Prim.Native.Nat.{ℕ, ◌+◌}
 use native.Mathlib.Numerals.{add-one}
-use Rattle.log.specs.Model.{Workers, role_of}
+use Rattle.event_log.specs.Model.{Workers, role_of}
 use Rattle.plan_text.specs.Text.{process_line, process_lines}
 use Rattle.plan_text.specs.Buffer.{Adds}
 

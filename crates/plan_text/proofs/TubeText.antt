@@ -5,7 +5,7 @@ use mathlib.Core.List.{List, ◌∷◌, ◌++◌}
 use Prim.Native.Nat.{ℕ}
 use Rattle.ranges.specs.Fold.{any_below, max_below, sum_below, first_below, last_below, tabulate, sweep}
 use Rattle.bytes_le.specs.Little.{le}
-use Rattle.log.specs.Model.{worker_count, worker, role_of, event_count, event_of, checkpoint_count, checkpoint_of}
+use Rattle.event_log.specs.Model.{worker_count, worker, role_of, event_count, event_of, checkpoint_count, checkpoint_of}
 use Rattle.records.specs.Event.{is_send, is_unlogged, is_logged, is_receive}
 use Rattle.lent.specs.Lent.{or_else}
 use Rattle.accept.specs.Tube.{tube, tube_log}

@@ -10,9 +10,9 @@ use lib.Dec.{eqb, ltb}
 use lib.ListN.{length, drop, length-append}
 use lib.Seq.{take_all}
 use Rattle.bytes_le.specs.Little.{le}
-use Rattle.log.specs.Limits.{max_workers}
-use Rattle.log.specs.Layout.{workers_of}
-use Rattle.log.specs.Model.{Workers, worker_count, role_of}
+use Rattle.event_log.specs.Limits.{max_workers}
+use Rattle.event_log.specs.Layout.{workers_of}
+use Rattle.event_log.specs.Model.{Workers, worker_count, role_of}
 use Rattle.lent.specs.Lent.{at, onto}
 use Rattle.accept.specs.Refusal.{given}
 use Rattle.lower_cut.specs.Figure2.{lower_cut}

@@ -4,7 +4,7 @@ use Rattle.std.specs.Prelude.{cond, ◌||◌, List, [], ◌∷◌, ◌++◌, ℕ
 use Prim.Native.Char.{code}
 use Prim.Native.String.{String, [] as none, ◌∷◌ as ◌then◌}
 use Rattle.bytes_le.specs.Little.{le}
-use Rattle.log.specs.Model.{Workers, worker_count, role_of}
+use Rattle.event_log.specs.Model.{Workers, worker_count, role_of}
 use Rattle.lent.specs.Lent.{at}
 use Rattle.accept.specs.Refusal.{Given, given}
 use Rattle.lower_cut.specs.Figure2.{lower_cut}

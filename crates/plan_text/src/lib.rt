@@ -2,8 +2,8 @@
 
 ghost use Rattle.std.specs.Prelude.{◌≡◌, [], ◌∷◌, ◌++◌, ◌+◌, ◌*◌, ◌<◌, ◌≤◌, length};
 ghost use Rattle.lent.specs.Lent.{words_refusal, unless_refused};
-ghost use Rattle.log.specs.Layout.{workers_of};
-ghost use Rattle.log.specs.Model.{worker_count};
+ghost use Rattle.event_log.specs.Layout.{workers_of};
+ghost use Rattle.event_log.specs.Model.{worker_count};
 ghost use Rattle.accept.specs.Refusal.{log_refusal, given};
 ghost use Rattle.lower_cut.specs.Figure2.{lower_cut};
 ghost use Rattle.refusals.specs.Refusals.{breakpoint_refusal, search_refusal};
@@ -18,7 +18,7 @@ ghost use Rattle.plan_text.specs.Buffer.{Holds, Adds};
 const MAX_INPUT: usize = 65536;
 
 // The scratch for the longest plan.
-const SCRATCH: usize = 2 * log::MAX_WORKERS;
+const SCRATCH: usize = 2 * event_log::MAX_WORKERS;
 
 // Puts a byte at a place of the text, where there is room for it, and gives the place after it.
 fn put_byte(out: &mut [u8], at: usize, byte: u8) -> usize
@@ -152,11 +152,11 @@ fn put_processes(out: &mut [u8], at: usize, log: &[u8], words: &[u32], upper: &[
     ensures text { Adds out.old at out.new result
         (λ text. process_lines text (workers_of log.now) words.now upper.now (worker_count (workers_of log.now))) }
 {
-    let n = log::worker_count(log);
+    let n = event_log::worker_count(log);
     let mut next = at;
     let mut w: usize = 0;
     while w < n {
-        next = put_process(out, next, w, log::role_of(log, w), words, upper);
+        next = put_process(out, next, w, event_log::role_of(log, w), words, upper);
         w += 1;
     }
     next
@@ -237,9 +237,9 @@ fn put_plan(out: &mut [u8], log: &[u8], worker: u32, event: u32) -> usize
     if refusal != 0 {
         return put_refused(out, refusal);
     }
-    let mut upper = [0u32; log::MAX_WORKERS];
+    let mut upper = [0u32; event_log::MAX_WORKERS];
     planner::upper_line(log, worker, event, &mut upper);
-    let n = log::worker_count(log);
+    let n = event_log::worker_count(log);
     put_found(
         out,
         log,

@@ -5,7 +5,7 @@ use Prim.Native.Nat.{ℕ, ◌≤◌}
 use lib.ListN.{length, set}
 use Rattle.lent.specs.Lent.{at, unless_refused}
 use Rattle.lent.proofs.Lent.{put, store_each, stored_words}
-use Rattle.log.specs.Model.{Workers}
+use Rattle.event_log.specs.Model.{Workers}
 use Rattle.pack.specs.declared.Packed.{Packed}
 use Rattle.pack.specs.Packed.{packed_length}
 use Rattle.pack.specs.Calls.{pack_answer}

@@ -6,8 +6,8 @@ use Prim.Native.Nat.{ℕ, ◌+◌, ◌*◌, ◌≤◌}
 use lib.ListN.{length, take, drop}
 use Rattle.lent.specs.Lent.{words_refusal, onto, unless_refused}
 use Rattle.lent.proofs.Lent.{or_else_zero, words_ok, put, written, named_words}
-use Rattle.log.specs.Layout.{workers_of}
-use Rattle.log.specs.Model.{Workers, worker_count, IsEvent}
+use Rattle.event_log.specs.Layout.{workers_of}
+use Rattle.event_log.specs.Model.{Workers, worker_count, IsEvent}
 use Rattle.accept.specs.Refusal.{given}
 use Rattle.accept.specs.WellFormed.{WellFormed}
 use Rattle.lower_cut.specs.Figure2.{lower_cut}

@@ -3,8 +3,8 @@
 use mathlib.Core.Path.{◌≡◌, ap}
 use mathlib.Core.List.{List}
 use Prim.Native.Nat.{ℕ}
-use Rattle.log.specs.Layout.{workers_of, log_of}
-use Rattle.log.specs.Model.{Log}
+use Rattle.event_log.specs.Layout.{workers_of, log_of}
+use Rattle.event_log.specs.Model.{Log}
 use Rattle.accept.specs.Refusal.{given, log_refusal}
 use Rattle.restore_plan.specs.Calls.{plan_call}
 use Rattle.planner.specs.Answers.{answers_to, SameAnswers, AnsweredAlike}

@@ -7,7 +7,7 @@ use native.Mathlib.Numerals.{add-one}
 use native.Mathlib.Omega.{arith}
 use borrow.Rule.Slice.PartMut.{put_mid, same_len_mid}
 use lib.ListN.{length, take, drop, get_or, set, length-take, length-drop, length-set, drop_of_length-le}
-use Rattle.log.specs.Model.{Workers}
+use Rattle.event_log.specs.Model.{Workers}
 use Rattle.accept.specs.Refusal.{Given}
 use Rattle.cost.specs.Words.{cuts_in, starts_in}
 use Rattle.replay_machine.specs.Machine.{step_of, listed, step_words}

@@ -3,7 +3,7 @@
 -- Assumes nothing.
 use Rattle.std.specs.Prelude.{◌≡◌, List, ℕ}
 use Rattle.lent.specs.Lent.{Left}
-use Rattle.log.specs.Layout.{workers_of, log_of}
+use Rattle.event_log.specs.Layout.{workers_of, log_of}
 use Rattle.accept.specs.Refusal.{Given, given, log_refusal}
 use Rattle.pack.specs.Calls.{pack_call}
 use Rattle.interval_refusals.specs.Calls.{intervals_call}

@@ -5,8 +5,8 @@ mod stepping;
 ghost use Rattle.std.specs.Prelude.{◌≡◌, List, [], ◌∷◌, ℕ, ◌+◌, ◌*◌, ◌≤◌, length, take};
 ghost use Rattle.lent.specs.Lent.{at, words_refusal, unless_refused, KeptIfRefused, left, word_of};
 ghost use Rattle.records.specs.Forms.{second_form};
-ghost use Rattle.log.specs.Layout.{form_field, workers_of, log_of};
-ghost use Rattle.log.specs.Model.{worker_count};
+ghost use Rattle.event_log.specs.Layout.{form_field, workers_of, log_of};
+ghost use Rattle.event_log.specs.Model.{worker_count};
 ghost use Rattle.repeats.specs.Repeats.{ReceivedOnce, ReceivedTwice};
 ghost use Rattle.accept.specs.Refusal.{log_refusal, given};
 ghost use Rattle.pack.specs.Calls.{pack_call};
@@ -294,7 +294,7 @@ pub extern "C" fn restore_and_replay(
         return refusal;
     }
     plan(log, worker, event, table, words, scratch, totals);
-    let n = log::worker_count(log);
+    let n = event_log::worker_count(log);
     let planned = 3 * n;
     let stepped = workers.len() * (n + 1);
     stepping::replay_words(

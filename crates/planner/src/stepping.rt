@@ -1,8 +1,8 @@
 // The step calls of a list over the words of a plan.
 
 ghost use Rattle.std.specs.Prelude.{◌≡◌, ◌∷◌, ◌+◌, ◌*◌, length};
-ghost use Rattle.log.specs.Layout.{workers_of};
-ghost use Rattle.log.specs.Model.{worker_count};
+ghost use Rattle.event_log.specs.Layout.{workers_of};
+ghost use Rattle.event_log.specs.Model.{worker_count};
 ghost use Rattle.accept.specs.Refusal.{log_refusal};
 ghost use Rattle.cost.specs.Words.{starts_in};
 ghost use Rattle.replay_machine.specs.Machine.{listed, step_words};

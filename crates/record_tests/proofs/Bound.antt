@@ -5,11 +5,11 @@ use mathlib.Core.List.{List}
 use Prim.Native.Nat.{ℕ, ◌≤◌}
 use native.Mathlib.Omega.{arith}
 use lib.Dec.{eqb}
-use Rattle.log.specs.Header.{layout_refusal}
-use Rattle.log.specs.Layout.{workers_of}
-use Rattle.log.specs.Model.{event_count, checkpoint_count}
-use Rattle.log.specs.Limits.{max_events}
-use Rattle.log.proofs.Read.{count_field, checkpoints_field}
+use Rattle.event_log.specs.Header.{layout_refusal}
+use Rattle.event_log.specs.Layout.{workers_of}
+use Rattle.event_log.specs.Model.{event_count, checkpoint_count}
+use Rattle.event_log.specs.Limits.{max_events}
+use Rattle.event_log.proofs.Read.{count_field, checkpoints_field}
 use Rattle.record_tests.specs.Records.{record_count}
 
 pub records_bound : (s : List ℕ) → layout_refusal s ≡ 0 → (test w : ℕ) → record_count test (workers_of s) w ≤ max_events

@@ -1,9 +1,9 @@
 // The tests 7 to 11 of a log's records, by their numbers.
 
 ghost use Rattle.std.specs.Prelude.{◌≡◌, ◌+◌, ◌<◌, ◌≤◌};
-ghost use Rattle.log.specs.Header.{layout_refusal};
-ghost use Rattle.log.specs.Model.{event_count, event_of};
-ghost use Rattle.log.specs.Layout.{workers_of};
+ghost use Rattle.event_log.specs.Header.{layout_refusal};
+ghost use Rattle.event_log.specs.Model.{event_count, event_of};
+ghost use Rattle.event_log.specs.Layout.{workers_of};
 ghost use Rattle.record_tests.specs.Records.{kind_fault, peer_fault, send_fault, field_fault, stamp_fault, send_of, source_fault, order_fault};
 ghost use Rattle.record_tests.specs.Records.{event_fault, checkpoint_fault, record_fault, record_count, worker_fault, some_record};
 
@@ -28,7 +28,7 @@ pub fn peer_fault(log: &[u8], w: usize, e: Event) -> bool
     if peer == w {
         return true;
     }
-    log::worker_count(log) <= peer
+    event_log::worker_count(log) <= peer
 }
 
 // Whether the peer event is not 0 for a send, or no event of the peer for a receive.
@@ -43,7 +43,7 @@ fn send_fault(log: &[u8], e: Event) -> bool
     if send == 0 {
         return true;
     }
-    log::event_count(log, e.peer as usize) < send
+    event_log::event_count(log, e.peer as usize) < send
 }
 
 // Test 7 on an event of worker w.
@@ -68,7 +68,7 @@ fn stamp_fault(log: &[u8], w: usize, k: u32, e: Event) -> bool
     requires { layout_refusal log.now ≡ 0 }
     ensures answer { result ≡ stamp_fault (workers_of log.now) w k e }
 {
-    let before = log::event_at(log, w, k);
+    let before = event_log::event_at(log, w, k);
     e.stamp <= before.stamp
 }
 
@@ -77,7 +77,7 @@ fn send_of(log: &[u8], e: Event) -> Event
     requires { layout_refusal log.now ≡ 0 }
     ensures answer { result ≡ send_of (workers_of log.now) e }
 {
-    log::event_at(log, e.peer as usize, e.send)
+    event_log::event_at(log, e.peer as usize, e.send)
 }
 
 // Test 9 on an event of worker w.
@@ -112,7 +112,7 @@ fn event_fault(log: &[u8], test: u32, w: usize, k: u32) -> bool
     requires { (layout_refusal log.now ≡ 0) × (7 ≤ test) × (test ≤ 10) × (k < event_count (workers_of log.now) w) }
     ensures answer { result ≡ event_fault test (workers_of log.now) w k (event_of (workers_of log.now) w (k + 1)) }
 {
-    let e = log::event_at(log, w, k + 1);
+    let e = event_log::event_at(log, w, k + 1);
     if test == 7 {
         return field_fault(log, w, e);
     }
@@ -130,7 +130,7 @@ fn checkpoint_fault(log: &[u8], w: usize, before: Checkpoint, c: Checkpoint) -> 
     requires { layout_refusal log.now ≡ 0 }
     ensures answer { result ≡ checkpoint_fault (workers_of log.now) w before c }
 {
-    if log::event_count(log, w) < c.index {
+    if event_log::event_count(log, w) < c.index {
         return true;
     }
     if c.index < before.index {
@@ -145,9 +145,9 @@ fn record_count(log: &[u8], test: u32, w: usize) -> u32
     ensures answer { result ≡ record_count test (workers_of log.now) w }
 {
     if test == 11 {
-        return log::checkpoint_count(log, w);
+        return event_log::checkpoint_count(log, w);
     }
-    log::event_count(log, w)
+    event_log::event_count(log, w)
 }
 
 // Test 7 to 11 on record k of worker w.
@@ -156,8 +156,8 @@ fn record_fault(log: &[u8], test: u32, w: usize, k: u32) -> bool
     ensures answer { result ≡ record_fault test (workers_of log.now) w k }
 {
     if test == 11 {
-        let before = log::checkpoint_at(log, w, k);
-        let c = log::checkpoint_at(log, w, k + 1);
+        let before = event_log::checkpoint_at(log, w, k);
+        let c = event_log::checkpoint_at(log, w, k + 1);
         return checkpoint_fault(log, w, before, c);
     }
     event_fault(log, test, w, k)
@@ -184,7 +184,7 @@ pub fn some_record(log: &[u8], test: u32) -> bool
     requires { (layout_refusal log.now ≡ 0) × (7 ≤ test) × (test ≤ 11) }
     ensures answer { result ≡ some_record test (workers_of log.now) }
 {
-    let n = log::worker_count(log);
+    let n = event_log::worker_count(log);
     let mut w: usize = 0;
     while w < n {
         if worker_fault(log, test, w) {

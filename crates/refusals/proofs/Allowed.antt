@@ -17,9 +17,9 @@ use mir.Syntax.{w64}
 use mir.Val.{Fits}
 use Rattle.lent.specs.Lent.{at, or_else, words_refusal}
 use Rattle.lent.proofs.Lent.{peel, or_else_zero, or_else_first, words_ok, scratch_ok}
-use Rattle.log.specs.Limits.{max_workers}
-use Rattle.log.specs.Layout.{workers_of}
-use Rattle.log.specs.Model.{Workers, worker_count, event_count, IsEvent}
+use Rattle.event_log.specs.Limits.{max_workers}
+use Rattle.event_log.specs.Layout.{workers_of}
+use Rattle.event_log.specs.Model.{Workers, worker_count, event_count, IsEvent}
 use Rattle.accept.specs.Refusal.{Given, log_refusal, given}
 use Rattle.refusals.specs.Refusals.{worker_refusal, event_refusal, scratch_words, scratch_refusal, over_count, cut_refusal, event_in_refusal, breakpoint_refusal, line_refusal, search_refusal, test_refusal}
 

@@ -4,7 +4,7 @@
 use Rattle.std.specs.Prelude.{Bool, cond, ◌||◌, List, ℕ, ◌*◌, eqb, leb, ltb}
 use Rattle.ranges.specs.Fold.{any_below}
 use Rattle.lent.specs.Lent.{at, or_else, words_refusal, short_scratch}
-use Rattle.log.specs.Model.{Workers, worker_count, event_count}
+use Rattle.event_log.specs.Model.{Workers, worker_count, event_count}
 use Rattle.accept.specs.Refusal.{Given}
 
 -- 12: "worker number not below n"

@@ -1,9 +1,9 @@
 // Refusals 12 to 15, and the chains of refusals that the calls share.
 
 ghost use Rattle.std.specs.Prelude.{◌≡◌, ◌≤◌};
-ghost use Rattle.log.specs.Header.{layout_refusal};
-ghost use Rattle.log.specs.Limits.{max_workers};
-ghost use Rattle.log.specs.Layout.{workers_of};
+ghost use Rattle.event_log.specs.Header.{layout_refusal};
+ghost use Rattle.event_log.specs.Limits.{max_workers};
+ghost use Rattle.event_log.specs.Layout.{workers_of};
 ghost use Rattle.accept.specs.Refusal.{given};
 ghost use Rattle.refusals.specs.Refusals.{worker_refusal, event_refusal, scratch_words, scratch_refusal, event_in_refusal, breakpoint_refusal, line_refusal, search_refusal};
 
@@ -12,7 +12,7 @@ pub fn worker_refusal(log: &[u8], worker: u32) -> u32
     requires { layout_refusal log.now ≡ 0 }
     ensures answer { result ≡ worker_refusal (workers_of log.now) worker }
 {
-    if log::worker_count(log) <= worker as usize {
+    if event_log::worker_count(log) <= worker as usize {
         return 12;
     }
     0
@@ -26,7 +26,7 @@ fn event_refusal(log: &[u8], w: usize, event: u32) -> u32
     if event == 0 {
         return 13;
     }
-    if log::event_count(log, w) < event {
+    if event_log::event_count(log, w) < event {
         return 13;
     }
     0
@@ -48,7 +48,7 @@ fn scratch_refusal(log: &[u8], lent: usize) -> u32
     requires { layout_refusal log.now ≡ 0 }
     ensures answer { result ≡ scratch_refusal (workers_of log.now) lent }
 {
-    lent::short_scratch(lent, scratch_words(log::worker_count(log)))
+    lent::short_scratch(lent, scratch_words(event_log::worker_count(log)))
 }
 
 // Refusals 12 and 13.
@@ -88,7 +88,7 @@ pub fn line_refusal(
     if refusal != 0 {
         return refusal;
     }
-    let needed = (each as usize) * log::worker_count(log);
+    let needed = (each as usize) * event_log::worker_count(log);
     lent::or_else(lent::words_refusal(words, needed), others)
 }
 

@@ -15,12 +15,12 @@ use Rattle.ranges.proofs.Bools.{and_true_left, and_true_right, never_true, both_
 use Rattle.ranges.proofs.Order.{lt_or_le, eq_or_ne}
 use Rattle.lent.specs.Lent.{at}
 use Rattle.records.specs.declared.Event.{Event}
-use Rattle.log.specs.Model.{Workers, worker_count, event_count, event_of}
+use Rattle.event_log.specs.Model.{Workers, worker_count, event_count, event_of}
 use Rattle.records.specs.Event.{is_receive}
-use Rattle.log.specs.Header.{layout_refusal}
-use Rattle.log.specs.Layout.{workers_of}
-use Rattle.log.specs.Limits.{max_workers}
-use Rattle.log.proofs.Read.{workers_few, worker_within}
+use Rattle.event_log.specs.Header.{layout_refusal}
+use Rattle.event_log.specs.Layout.{workers_of}
+use Rattle.event_log.specs.Limits.{max_workers}
+use Rattle.event_log.proofs.Read.{workers_few, worker_within}
 use Rattle.repeats.specs.Repeats.{same_send, repeats, repeated_by, is_repeated, worker_repeats, some_repeat}
 use Rattle.repeats.specs.Inner.Again.{Messages, same_as, again, worker_again, some_again}
 

@@ -14,7 +14,7 @@ use Rattle.ranges.proofs.Any.{any_none, any_next, any_found, any_some}
 use Rattle.ranges.proofs.Bools.{and_true_left, and_true_right, or_true_cases, never_true, both_ways}
 use Rattle.ranges.proofs.Order.{eq_or_ne}
 use Rattle.records.specs.declared.Event.{Event}
-use Rattle.log.specs.Model.{Workers, event_count, event_of}
+use Rattle.event_log.specs.Model.{Workers, event_count, event_of}
 use Rattle.records.specs.Event.{is_receive, received}
 use Rattle.repeats.specs.Inner.Again.{Messages, again}
 use Rattle.repeats.specs.Inner.Table.{table_bits, bit_at, marked, place_of, has_bit, table_after, found_marked, receives_place, worker_receives, received_before, Marks, again_within}

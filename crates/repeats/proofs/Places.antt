@@ -13,12 +13,12 @@ use Rattle.ranges.proofs.Bools.{and_true_left, and_true_right, never_true, both_
 use Rattle.ranges.proofs.Order.{lt_or_le}
 use Rattle.ranges.proofs.Sum.{sum_none, sum_more, sum_grows, sum_bound}
 use Rattle.records.specs.declared.Event.{Event}
-use Rattle.log.specs.Model.{Workers, worker_count, event_count, event_of}
+use Rattle.event_log.specs.Model.{Workers, worker_count, event_count, event_of}
 use Rattle.records.specs.Event.{is_receive, received}
-use Rattle.log.specs.Header.{layout_refusal}
-use Rattle.log.specs.Layout.{workers_of}
-use Rattle.log.specs.Limits.{max_workers, max_events}
-use Rattle.log.proofs.Read.{workers_few, count_field, worker_within}
+use Rattle.event_log.specs.Header.{layout_refusal}
+use Rattle.event_log.specs.Layout.{workers_of}
+use Rattle.event_log.specs.Limits.{max_workers, max_events}
+use Rattle.event_log.proofs.Read.{workers_few, count_field, worker_within}
 use Rattle.repeats.specs.Inner.Again.{Messages, again, some_again}
 use Rattle.repeats.specs.Inner.Table.{first_place, all_events, place_of, again_within, worker_again_within, some_again_within}
 use Rattle.repeats.proofs.Again.{Same, again_by, some_from, some_by}

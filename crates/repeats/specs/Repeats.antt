@@ -4,7 +4,7 @@ use Rattle.std.specs.Prelude.{◌≡◌, Bool, true, not, ◌&&◌, ℕ, ◌+◌
 use Rattle.ranges.specs.Fold.{any_below}
 use Rattle.records.specs.declared.Event.{Event}
 use Rattle.records.specs.Forms.{receives_once}
-use Rattle.log.specs.Model.{Log, Workers, worker_count, event_count, event_of}
+use Rattle.event_log.specs.Model.{Log, Workers, worker_count, event_count, event_of}
 use Rattle.records.specs.Event.{is_receive}
 
 -- both are receives, and they name the same event of the same worker

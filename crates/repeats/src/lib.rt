@@ -3,10 +3,10 @@
 
 ghost use Rattle.std.specs.Prelude.{◌≡◌, false, ◌&&◌, ◌+◌, ◌*◌, ◌<◌, ◌≤◌, eqb, length};
 ghost use Rattle.records.specs.Forms.{receives_once};
-ghost use Rattle.log.specs.Header.{layout_refusal};
-ghost use Rattle.log.specs.Model.{worker_count};
+ghost use Rattle.event_log.specs.Header.{layout_refusal};
+ghost use Rattle.event_log.specs.Model.{worker_count};
 ghost use Rattle.records.specs.Event.{received};
-ghost use Rattle.log.specs.Layout.{form_field, workers_of, log_of};
+ghost use Rattle.event_log.specs.Layout.{form_field, workers_of, log_of};
 ghost use Rattle.repeats.specs.Repeats.{repeat_fault};
 ghost use Rattle.repeats.specs.Inner.Again.{Messages, worker_again, some_again};
 ghost use Rattle.repeats.specs.Inner.Table.{word_bits, few_words, many_words, table_bits, bit_at, marked, all_events, place_of};
@@ -30,12 +30,12 @@ fn worker_falls(log: &[u8], w: usize) -> bool
     requires { (layout_refusal log.now ≡ 0) × Messages (workers_of log.now) }
     ensures rises { result ≡ false → worker_again (workers_of log.now) w ≡ false }
 {
-    let start = log::event_start(log, w);
-    let events = log::event_count(log, w) as usize;
-    let mut row = [0u32; log::MAX_WORKERS];
+    let start = event_log::event_start(log, w);
+    let events = event_log::event_count(log, w) as usize;
+    let mut row = [0u32; event_log::MAX_WORKERS];
     let mut k: usize = 0;
     while k < events {
-        let e = log::event_in(log, start, events, k);
+        let e = event_log::event_in(log, start, events, k);
         let peer = e.peer as usize;
         let last = row[peer];
         if before_send(e) < last {
@@ -52,7 +52,7 @@ fn some_falls(log: &[u8]) -> bool
     requires { (layout_refusal log.now ≡ 0) × Messages (workers_of log.now) }
     ensures rises { result ≡ false → some_again (workers_of log.now) ≡ false }
 {
-    let n = log::worker_count(log);
+    let n = event_log::worker_count(log);
     let mut w: usize = 0;
     while w < n {
         if worker_falls(log, w) {
@@ -85,12 +85,12 @@ fn number_events(log: &[u8], firsts: &mut [u32]) -> usize
     ensures firsts { Numbered (workers_of log.now) firsts.new }
     ensures events { result ≡ all_events (workers_of log.now) }
 {
-    let n = log::worker_count(log);
+    let n = event_log::worker_count(log);
     let mut next: u32 = 0;
     let mut w: usize = 0;
     while w < n {
         firsts[w] = next;
-        next += log::event_count(log, w);
+        next += event_log::event_count(log, w);
         w += 1;
     }
     next as usize
@@ -128,11 +128,11 @@ fn mark_worker(log: &[u8], w: usize, firsts: &[u32], low: usize, table: &mut [u3
     ensures answer { result ≡ worker_again_within (workers_of log.now) low (low + table_bits table.old) w }
     ensures marks { result ≡ false → Marks (workers_of log.now) low (w + 1) 0 table.new }
 {
-    let start = log::event_start(log, w);
-    let events = log::event_count(log, w) as usize;
+    let start = event_log::event_start(log, w);
+    let events = event_log::event_count(log, w) as usize;
     let mut k: usize = 0;
     while k < events {
-        let e = log::event_in(log, start, events, k);
+        let e = event_log::event_in(log, start, events, k);
         if mark_event(log, firsts, low, e, table) {
             return true;
         }
@@ -147,7 +147,7 @@ fn mark_all(log: &[u8], firsts: &[u32], low: usize, table: &mut [u32]) -> bool
         × Marks (workers_of log.now) low 0 0 table.old × (length table.old ≤ many_words) }
     ensures answer { result ≡ some_again_within (workers_of log.now) low (low + table_bits table.old) }
 {
-    let n = log::worker_count(log);
+    let n = event_log::worker_count(log);
     let mut w: usize = 0;
     while w < n {
         if mark_worker(log, w, firsts, low, table) {
@@ -190,10 +190,10 @@ fn repeats_from(log: &[u8], low: usize) -> bool
     ensures answer { result ≡ (receives_once (form_field log.now)
         && some_again_within (workers_of log.now) low (all_events (workers_of log.now))) }
 {
-    if !log::receives_once(log) {
+    if !event_log::receives_once(log) {
         return false;
     }
-    let mut firsts = [0u32; log::MAX_WORKERS];
+    let mut firsts = [0u32; event_log::MAX_WORKERS];
     let events = number_events(log, &mut firsts);
     if events <= low {
         return false;

@@ -12,7 +12,7 @@ use lib.Seq.{take-suc, take_at, drop_at, drop-drop, drop-cons, set_at, length-ta
 use Rattle.ranges.proofs.Order.{lt_or_le}
 use Rattle.lent.specs.Lent.{words_refusal}
 use Rattle.lent.proofs.Lent.{words_short, words_enough}
-use Rattle.log.specs.Model.{Workers}
+use Rattle.event_log.specs.Model.{Workers}
 use Rattle.cost.specs.Words.{cuts_in, starts_in}
 use Rattle.replay_machine.specs.Machine.{Step, step_of, moved, run, positions_after, listed, answer_word}
 use Rattle.replay_machine.specs.Calls.{machine_answer, machine_moved, machine_run, machine_after}

@@ -5,8 +5,8 @@ pub mod list;
 ghost use Rattle.std.specs.Prelude.{◌≡◌, List, [], ◌∷◌, ℕ, ◌+◌, ◌*◌, ◌<◌, ◌≤◌, length};
 ghost use Rattle.ranges.specs.Fold.{any_below};
 ghost use Rattle.lent.specs.Lent.{at, left};
-ghost use Rattle.log.specs.Layout.{workers_of};
-ghost use Rattle.log.specs.Model.{worker_count};
+ghost use Rattle.event_log.specs.Layout.{workers_of};
+ghost use Rattle.event_log.specs.Model.{worker_count};
 ghost use Rattle.accept.specs.Refusal.{log_refusal, given};
 ghost use Rattle.cost.specs.Words.{start_in};
 ghost use Rattle.replay_machine.specs.Machine.{event_answer};
@@ -29,7 +29,7 @@ fn is_disordered(log: &[u8], words: &[u32], positions: &[u32], w: usize) -> bool
     if cut_in(words, w) < positions[w] {
         return true;
     }
-    log::event_count(log, w) < cut_in(words, w)
+    event_log::event_count(log, w) < cut_in(words, w)
 }
 
 // Whether some worker is without start <= position <= cut <= count.
@@ -37,7 +37,7 @@ fn some_disordered(log: &[u8], words: &[u32], positions: &[u32]) -> bool
     requires { (log_refusal log.now ≡ 0) × (3 * worker_count (workers_of log.now) ≤ length words.now) × (worker_count (workers_of log.now) ≤ length positions.now) }
     ensures answer { result ≡ any_below (disordered (workers_of log.now) words.now positions.now) (worker_count (workers_of log.now)) }
 {
-    let n = log::worker_count(log);
+    let n = event_log::worker_count(log);
     let mut w: usize = 0;
     while w < n {
         if is_disordered(log, words, positions, w) {
@@ -53,7 +53,7 @@ fn state_refusal(log: &[u8], words: &[u32], positions: &[u32], others: u32) -> u
     requires { log_refusal log.now ≡ 0 }
     ensures answer { result ≡ state_refusal (workers_of log.now) words.now positions.now others }
 {
-    let n = log::worker_count(log);
+    let n = event_log::worker_count(log);
     let more = lent::or_else(lent::words_refusal(positions.len(), n), others);
     let short = lent::or_else(lent::words_refusal(words.len(), 3 * n), more);
     if short != 0 {
@@ -99,14 +99,14 @@ fn answer(log: &[u8], words: &[u32], positions: &[u32], w: usize) -> u32
     requires { (log_refusal log.now ≡ 0) × IsState (workers_of log.now) words.now positions.now }
     ensures answer { result ≡ machine_answer (workers_of log.now) words.now positions.now w }
 {
-    if log::worker_count(log) <= w {
+    if event_log::worker_count(log) <= w {
         return 12;
     }
     let position = positions[w];
     if cut_in(words, w) <= position {
         return 21;
     }
-    event_answer(words, positions, log::event_at(log, w, position + 1))
+    event_answer(words, positions, event_log::event_at(log, w, position + 1))
 }
 
 // A step of worker w over a state that was tested: its answer, and the position word of a done one.

@@ -2,7 +2,7 @@
 
 ghost use Rattle.std.specs.Prelude.{◌≡◌, [], ◌∷◌, ◌++◌, ◌≤◌, length, drop};
 ghost use Rattle.lent.specs.Lent.{left};
-ghost use Rattle.log.specs.Layout.{workers_of};
+ghost use Rattle.event_log.specs.Layout.{workers_of};
 ghost use Rattle.accept.specs.Refusal.{log_refusal, given};
 ghost use Rattle.replay_machine.specs.Machine.{listed, answer_word};
 ghost use Rattle.replay_machine.specs.Calls.{steps_refusal, others_refusal, restore_refusal, machine_run, machine_after, steps_call};
@@ -65,7 +65,7 @@ fn others_refusal(log: &[u8], calls: usize, positions: usize, steps: usize, tota
     requires { log_refusal log.now ≡ 0 }
     ensures answer { result ≡ others_refusal (workers_of log.now) calls positions steps totals }
 {
-    let n = log::worker_count(log);
+    let n = event_log::worker_count(log);
     let placed = lent::words_refusal(positions, n);
     let stepped = lent::words_refusal(steps / (n + 1), calls);
     lent::or_else(

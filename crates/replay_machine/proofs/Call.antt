@@ -16,7 +16,7 @@ use Rattle.ranges.proofs.Bools.{and_true_left, and_true_right}
 use Rattle.ranges.proofs.Order.{lt_or_le, eq_or_ne}
 use Rattle.lent.specs.Lent.{at, or_else, words_refusal}
 use Rattle.lent.proofs.Lent.{peel, or_else_zero, words_ok, words_enough}
-use Rattle.log.specs.Model.{Workers, worker_count, event_count, IsEvent}
+use Rattle.event_log.specs.Model.{Workers, worker_count, event_count, IsEvent}
 use Rattle.accept.specs.Refusal.{Given}
 use Rattle.accept.specs.WellFormed.{WellFormed}
 use Rattle.causality.specs.Cut.{IsCut}

@@ -10,7 +10,7 @@ use lib.ListN.{length}
 use Rattle.ranges.specs.Fold.{sum_below}
 use Rattle.ranges.proofs.Order.{eq_or_ne}
 use Rattle.ranges.proofs.Sum.{sum_same, sum_tight, sum_raised, sum_add}
-use Rattle.log.specs.Model.{Workers, worker_count}
+use Rattle.event_log.specs.Model.{Workers, worker_count}
 use Rattle.lent.specs.Lent.{at}
 use Rattle.causality.specs.Cut.{Within}
 use Rattle.cost.specs.Cost.{replayed, events_of}

@@ -7,9 +7,9 @@ use lib.ListN.{length, get_or}
 use Rattle.ranges.proofs.Tabulate.{get_d_tabulate}
 use Rattle.lent.specs.Lent.{at}
 use Rattle.records.specs.declared.Checkpoint.{Checkpoint}
-use Rattle.log.specs.Model.{Workers, worker_count, IsEvent}
+use Rattle.event_log.specs.Model.{Workers, worker_count, IsEvent}
 use Rattle.records.specs.Checkpoint.{initial}
-use Rattle.log.proofs.Read.{worker_within}
+use Rattle.event_log.proofs.Read.{worker_within}
 use Rattle.accept.specs.WellFormed.{WellFormed}
 use Rattle.causality.specs.Cut.{Consistent, Within}
 use Rattle.lower_cut.specs.Calls.{found_cut}

@@ -6,7 +6,7 @@ use Prim.Native.Nat.{ℕ, zero, suc, ◌+◌, ◌<◌}
 use native.Mathlib.Nat.{not-suc-le-zero}
 use native.Mathlib.Omega.{arith}
 use lib.ListN.{length, get_or, take}
-use Rattle.log.specs.Model.{Workers}
+use Rattle.event_log.specs.Model.{Workers}
 use Rattle.replay_machine.specs.Machine.{Step, moved, step_of, run, positions_after}
 use Rattle.replay_machine.proofs.Steps.{Between, moved_long, moved_between}
 

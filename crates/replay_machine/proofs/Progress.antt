@@ -11,7 +11,7 @@ use lib.Dec.{ltb}
 use Rattle.ranges.specs.Fold.{any_below}
 use Rattle.ranges.proofs.Any.{any_each, any_some}
 use Rattle.ranges.proofs.Order.{lt_or_le, descend}
-use Rattle.log.specs.Model.{Workers, worker_count, event_of}
+use Rattle.event_log.specs.Model.{Workers, worker_count, event_of}
 use Rattle.records.specs.Event.{is_unlogged, is_receive}
 use Rattle.accept.specs.WellFormed.{WellFormed}
 use Rattle.accept.proofs.Stamps.{waits_earlier}

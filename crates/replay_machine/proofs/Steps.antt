@@ -13,7 +13,7 @@ use lib.ListN.{length, set, length-set}
 use lib.Seq.{get_or-set_same, get_or-set_other}
 use Rattle.ranges.proofs.Order.{eq_or_ne}
 use Rattle.records.specs.declared.Event.{Event}
-use Rattle.log.specs.Model.{Workers, worker_count, event_of}
+use Rattle.event_log.specs.Model.{Workers, worker_count, event_of}
 use Rattle.records.specs.Event.{is_unlogged}
 use Rattle.lent.proofs.Lent.{peel}
 use Rattle.lent.specs.Lent.{at}

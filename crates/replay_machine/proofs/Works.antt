@@ -11,9 +11,9 @@ use Rattle.ranges.specs.Fold.{sum_below}
 use Rattle.ranges.proofs.Order.{lt_or_le, eq_or_ne}
 use Rattle.ranges.proofs.Sum.{sum_le}
 use Rattle.records.specs.declared.Checkpoint.{Checkpoint}
-use Rattle.log.specs.Model.{Workers, worker_count, event_of}
+use Rattle.event_log.specs.Model.{Workers, worker_count, event_of}
 use Rattle.records.specs.Event.{is_unlogged}
-use Rattle.log.proofs.Read.{worker_within}
+use Rattle.event_log.proofs.Read.{worker_within}
 use Rattle.accept.specs.WellFormed.{WellFormed}
 use Rattle.lent.specs.Lent.{at}
 use Rattle.causality.specs.Cut.{Consistent, Within}

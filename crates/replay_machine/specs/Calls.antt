@@ -3,7 +3,7 @@
 use Rattle.std.specs.Prelude.{Bool, not, cond, ◌&&◌, List, [], ◌∷◌, ℕ, ◌+◌, ◌*◌, leb, length}
 use Rattle.ranges.specs.Fold.{any_below}
 use Rattle.lent.specs.Lent.{at, or_else, words_refusal, unless_refused, Left, left, leaves_both}
-use Rattle.log.specs.Model.{Workers, worker_count, event_count}
+use Rattle.event_log.specs.Model.{Workers, worker_count, event_count}
 use Rattle.accept.specs.Refusal.{Given}
 use Rattle.refusals.specs.Refusals.{worker_refusal}
 use Rattle.unit_table.specs.Table.{table_of}

@@ -3,7 +3,7 @@
 use Rattle.std.specs.Prelude.{◌≡◌, ◌↔◌, ◌⊎◌, ◌≢◌, List, ℕ, ◌+◌, ◌*◌, ◌<◌, ◌≤◌, get_or}
 use Rattle.lent.specs.Lent.{at}
 use Rattle.records.specs.declared.Checkpoint.{Checkpoint}
-use Rattle.log.specs.Model.{Workers, worker_count, IsEvent}
+use Rattle.event_log.specs.Model.{Workers, worker_count, IsEvent}
 use Rattle.records.specs.Checkpoint.{initial}
 use Rattle.causality.specs.Happened.{HappenedBefore}
 use Rattle.causality.specs.Cut.{Within, receives_within}

@@ -2,7 +2,7 @@
 -- Assumes nothing.
 use Rattle.std.specs.Prelude.{◌≡◌, cond, List, [], ◌∷◌, ◌++◌, ℕ, ◌+◌, ◌<◌, eqb, leb, ltb, set}
 use Rattle.records.specs.declared.Event.{Event}
-use Rattle.log.specs.Model.{Workers, worker_count, event_of}
+use Rattle.event_log.specs.Model.{Workers, worker_count, event_of}
 use Rattle.records.specs.Event.{is_unlogged}
 use Rattle.lent.specs.Lent.{at}
 

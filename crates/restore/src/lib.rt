@@ -3,8 +3,8 @@
 ghost use Rattle.std.specs.Prelude.{◌≡◌, ◌*◌, ◌<◌, ◌≤◌, length, take};
 ghost use Rattle.ranges.specs.Fold.{tabulate};
 ghost use Rattle.lent.specs.Lent.{onto, unless_refused, KeptIfRefused};
-ghost use Rattle.log.specs.Layout.{workers_of, log_of};
-ghost use Rattle.log.specs.Model.{worker_count, IsEvent};
+ghost use Rattle.event_log.specs.Layout.{workers_of, log_of};
+ghost use Rattle.event_log.specs.Model.{worker_count, IsEvent};
 ghost use Rattle.accept.specs.Refusal.{log_refusal, given};
 ghost use Rattle.lower_cut.specs.Figure2.{lower_cut};
 ghost use Rattle.lower_cut.specs.Calls.{found_cut};
@@ -36,7 +36,7 @@ fn cut_words(log: &[u8], i: usize, event: u32, words: &mut [u32], scratch: &mut 
     ensures answer { result ≡ found_cut (workers_of log.now) i event }
     ensures words { cuts_in (workers_of log.now) words.new ≡ lower_cut (workers_of log.now) i event }
 {
-    let n = log::worker_count(log);
+    let n = event_log::worker_count(log);
     let found = lower_cut::found_cut(log, i, event, &mut words[..n], scratch);
     spread(words, n);
     found
@@ -50,7 +50,7 @@ pub fn plan_words(log: &[u8], i: usize, event: u32, words: &mut [u32], scratch: 
     ensures words { words.new ≡ planned_words (workers_of log.now) i event }
 {
     let cut = cut_words(log, i, event, words, scratch);
-    let n = log::worker_count(log);
+    let n = event_log::worker_count(log);
     starts::plan_into(log, words, &mut scratch[..n]);
     cut
 }
@@ -136,7 +136,7 @@ pub fn plan(
             workers: 0,
         };
     }
-    let n = log::worker_count(log);
+    let n = event_log::worker_count(log);
     let all = 3 * n;
     plan_found(
         log,

@@ -15,7 +15,7 @@ use Rattle.ranges.proofs.Bools.{and_true_left, and_true_right}
 use Rattle.ranges.proofs.First.{last}
 use Rattle.ranges.proofs.Tabulate.{length_tabulate, get_d_tabulate, get_d_tabulate_past}
 use Rattle.records.specs.declared.Checkpoint.{Checkpoint}
-use Rattle.log.specs.Model.{Workers, worker_count, checkpoint_count, checkpoint_of}
+use Rattle.event_log.specs.Model.{Workers, worker_count, checkpoint_count, checkpoint_of}
 use Rattle.records.specs.Checkpoint.{initial}
 use Rattle.lent.specs.Lent.{at}
 use Rattle.causality.specs.Cut.{Within}

@@ -8,7 +8,7 @@ use native.Mathlib.Omega.{arith}
 use lib.ListN.{take, drop}
 use lib.Seq.{take_at}
 use Rattle.records.specs.declared.Checkpoint.{Checkpoint}
-use Rattle.log.specs.Model.{Workers, worker_count, IsEvent}
+use Rattle.event_log.specs.Model.{Workers, worker_count, IsEvent}
 use Rattle.accept.specs.WellFormed.{WellFormed}
 use Rattle.causality.specs.Cut.{IsCut}
 use Rattle.lower_cut.specs.Figure2.{lower_cut}

@@ -12,7 +12,7 @@ use Rattle.ranges.proofs.Order.{lt_or_le}
 use Rattle.ranges.proofs.Sum.{sum_le, sum_tight}
 use Rattle.ranges.proofs.Sweep.{sweep_keeps}
 use Rattle.records.specs.declared.Checkpoint.{Checkpoint}
-use Rattle.log.specs.Model.{Workers, worker_count}
+use Rattle.event_log.specs.Model.{Workers, worker_count}
 use Rattle.records.specs.Checkpoint.{initial}
 use Rattle.accept.specs.WellFormed.{WellFormed}
 use Rattle.lent.specs.Lent.{at}

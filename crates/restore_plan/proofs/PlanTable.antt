@@ -6,8 +6,8 @@ use Prim.Native.Nat.{ℕ}
 use Rattle.ranges.proofs.Order.{eq_or_ne}
 use Rattle.lent.specs.Lent.{unless_refused}
 use Rattle.lent.proofs.Lent.{or_else_zero, or_else_first, or_else_none, untouched}
-use Rattle.log.specs.Layout.{workers_of}
-use Rattle.log.specs.Model.{Workers, IsEvent}
+use Rattle.event_log.specs.Layout.{workers_of}
+use Rattle.event_log.specs.Model.{Workers, IsEvent}
 use Rattle.accept.specs.Refusal.{Given, given}
 use Rattle.accept.specs.WellFormed.{WellFormed}
 use Rattle.accept.proofs.Accepted.{well_formed}

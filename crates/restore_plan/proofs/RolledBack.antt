@@ -15,9 +15,9 @@ use Rattle.ranges.proofs.Any.{any_each, any_every}
 use Rattle.ranges.proofs.Bools.{and_true_left, and_true_right, never_true}
 use Rattle.ranges.proofs.Max.{max_each, max_least, max_some}
 use Rattle.ranges.proofs.Tabulate.{length_tabulate, get_d_tabulate, get_d_tabulate_past}
-use Rattle.log.specs.Model.{Workers, worker_count, event_of, checkpoint_count, checkpoint_of}
+use Rattle.event_log.specs.Model.{Workers, worker_count, event_of, checkpoint_count, checkpoint_of}
 use Rattle.records.specs.Event.{is_unlogged}
-use Rattle.log.proofs.Read.{worker_within, checkpoint_initial}
+use Rattle.event_log.proofs.Read.{worker_within, checkpoint_initial}
 use Rattle.accept.specs.WellFormed.{WellFormed}
 use Rattle.lent.specs.Lent.{at}
 use Rattle.causality.specs.Cut.{Within, IsCut}

@@ -18,9 +18,9 @@ use Rattle.lent.specs.Lent.{at}
 use Rattle.records.specs.Forms.{marks_withdrawn}
 use Rattle.records.specs.Mark.{top_bit, has_mark}
 use Rattle.records.specs.declared.Checkpoint.{Checkpoint}
-use Rattle.log.specs.Model.{Workers, worker_count, checkpoint_count, checkpoint_of}
-use Rattle.log.specs.Layout.{form_field, workers_of, log_of}
-use Rattle.log.proofs.Read.{checkpoint_initial, identifier_below}
+use Rattle.event_log.specs.Model.{Workers, worker_count, checkpoint_count, checkpoint_of}
+use Rattle.event_log.specs.Layout.{form_field, workers_of, log_of}
+use Rattle.event_log.proofs.Read.{checkpoint_initial, identifier_below}
 use Rattle.choice.specs.Choice.{may_choose}
 use Rattle.choice.proofs.Choosable.{may_recorded, may_kept, may_listed}
 use Rattle.restore_plan.specs.Plan.{stands_at, identifier_of, identifier_at, plan_starts, plan_words}

@@ -6,8 +6,8 @@ use Prim.Native.Nat.{ℕ, ◌+◌, ◌-◌, ◌*◌, ◌/◌, ◌%◌, ◌<◌}
 use native.Mathlib.Omega.{arith}
 use lib.ListN.{length}
 use Rattle.ranges.proofs.Tabulate.{length_tabulate, get_d_tabulate}
-use Rattle.log.specs.Model.{Workers, worker_count, IsEvent}
-use Rattle.log.specs.Layout.{workers_of}
+use Rattle.event_log.specs.Model.{Workers, worker_count, IsEvent}
+use Rattle.event_log.specs.Layout.{workers_of}
 use Rattle.accept.specs.Refusal.{log_refusal}
 use Rattle.accept.specs.WellFormed.{WellFormed}
 use Rattle.accept.proofs.Accepted.{well_formed}

@@ -2,7 +2,7 @@
 -- Assumes nothing.
 use Rattle.std.specs.Prelude.{cond, List, [], ◌∷◌, ℕ, eqb, length}
 use Rattle.lent.specs.Lent.{or_else, words_refusal, Left, leaves_both}
-use Rattle.log.specs.Model.{Workers}
+use Rattle.event_log.specs.Model.{Workers}
 use Rattle.accept.specs.Refusal.{Given}
 use Rattle.refusals.specs.Refusals.{search_refusal}
 use Rattle.lower_cut.specs.Figure2.{lower_cut}

@@ -2,7 +2,7 @@
 -- Assumes nothing.
 use Rattle.std.specs.Prelude.{◌≡◌, true, List, ℕ, ◌<◌, ◌≤◌}
 use Rattle.lent.specs.Lent.{at}
-use Rattle.log.specs.Model.{Workers, worker_count, checkpoint_of}
+use Rattle.event_log.specs.Model.{Workers, worker_count, checkpoint_of}
 use Rattle.lower_cut.specs.Figure2.{lower_cut}
 use Rattle.cost.specs.Words.{start_in}
 use Rattle.covering.specs.Covering.{is_set, covering_set}

@@ -3,7 +3,7 @@
 use Rattle.std.specs.Prelude.{Bool, false, not, cond, ◌&&◌, List, ℕ, ◌+◌, ◌*◌, ◌/◌, ◌%◌, eqb, leb}
 use Rattle.ranges.specs.Fold.{any_below, max_below, sum_below, last_below, tabulate, sweep}
 use Rattle.records.specs.declared.Checkpoint.{Checkpoint}
-use Rattle.log.specs.Model.{Workers, worker_count, event_of, checkpoint_count, checkpoint_of}
+use Rattle.event_log.specs.Model.{Workers, worker_count, event_of, checkpoint_count, checkpoint_of}
 use Rattle.lent.specs.Lent.{at}
 use Rattle.choice.specs.Choice.{may_choose, loses_send}
 

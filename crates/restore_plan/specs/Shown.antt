@@ -3,7 +3,7 @@
 use Rattle.std.specs.Prelude.{◌≡◌, false, List, ℕ, ◌+◌, ◌*◌, ◌<◌, ◌≤◌}
 use Rattle.lent.specs.Lent.{at}
 use Rattle.records.specs.Mark.{has_mark}
-use Rattle.log.specs.Model.{Log, Workers, worker_count, checkpoint_count, checkpoint_of}
+use Rattle.event_log.specs.Model.{Log, Workers, worker_count, checkpoint_count, checkpoint_of}
 use Rattle.cost.specs.Words.{start_in, identifier_in}
 
 -- "listed with that index and not withdrawn": checkpoint c of worker w, with index x

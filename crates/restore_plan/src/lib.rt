@@ -1,7 +1,7 @@
 // The restore plan: its definitions and theorems, and what it returns.
 
 // The words of the plan of a log with as many workers as there may be.
-pub const PLAN_WORDS: usize = 3 * log::MAX_WORKERS;
+pub const PLAN_WORDS: usize = 3 * event_log::MAX_WORKERS;
 
 // The words that the exported plan is lent for what it returns.
 pub const PLAN_TOTALS: usize = 4;

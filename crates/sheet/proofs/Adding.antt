@@ -4,8 +4,8 @@ use mathlib.Core.List.{List}
 use Prim.Native.Nat.{ℕ, ◌+◌, ◌*◌, ◌^◌, ◌<◌}
 use lib.ListN.{length}
 use Rattle.ranges.specs.Fold.{tabulate}
-use Rattle.log.specs.Layout.{workers_of}
-use Rattle.log.specs.Model.{Workers, worker_count, IsEvent}
+use Rattle.event_log.specs.Layout.{workers_of}
+use Rattle.event_log.specs.Model.{Workers, worker_count, IsEvent}
 use Rattle.accept.proofs.Accepted.{well_formed}
 use Rattle.unit_table.specs.Table.{table_of}
 use Rattle.cost.specs.Words.{cuts_in, starts_in}

@@ -4,8 +4,8 @@ use mathlib.Core.List.{List}
 use Prim.Native.Nat.{ℕ, ◌*◌, ◌≤◌}
 use Rattle.lent.specs.Lent.{or_else, words_refusal, short_scratch}
 use Rattle.lent.proofs.Lent.{or_else_zero, words_ok, scratch_ok}
-use Rattle.log.specs.Layout.{workers_of}
-use Rattle.log.specs.Model.{worker_count}
+use Rattle.event_log.specs.Layout.{workers_of}
+use Rattle.event_log.specs.Model.{worker_count}
 use Rattle.accept.specs.Refusal.{given}
 use Rattle.unit_table.specs.Table.{table_refusal}
 use Rattle.breakpoints.specs.Breakpoints.{list_refusal}

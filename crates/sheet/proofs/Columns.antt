@@ -7,8 +7,8 @@ use native.Mathlib.Omega.{arith}
 use lib.Dec.{eqb, ltb}
 use Rattle.lent.specs.Lent.{at, word_of}
 use Rattle.lent.proofs.Left.{word_few}
-use Rattle.log.specs.Limits.{max_events}
-use Rattle.log.specs.Model.{Workers}
+use Rattle.event_log.specs.Limits.{max_events}
+use Rattle.event_log.specs.Model.{Workers}
 use Rattle.accept.specs.WellFormed.{WellFormed}
 use Rattle.causality.specs.Cut.{IsCut}
 use Rattle.records.specs.declared.Kind.{Kind}

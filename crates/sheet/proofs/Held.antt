@@ -6,7 +6,7 @@ use Prim.Native.Nat.{ℕ, ◌-◌, ◌*◌, ◌/◌, ◌%◌, ◌<◌}
 use native.Mathlib.Omega.{arith}
 use borrow.Author.Tests.{lt-ltb, le-ltb}
 use Rattle.lent.specs.Lent.{at, word_of}
-use Rattle.log.specs.Model.{Workers, worker_count}
+use Rattle.event_log.specs.Model.{Workers, worker_count}
 use Rattle.unit_table.specs.Table.{Table}
 use Rattle.cost.specs.Words.{cut_in, start_in, cuts_in, starts_in}
 use Rattle.cost.specs.Cost.{replayed}

@@ -12,9 +12,9 @@ use Rattle.ranges.proofs.Sum.{sum_same, sum_split, sum_swap}
 use Rattle.lent.specs.Lent.{at, onto, word_of}
 use Rattle.lent.proofs.Lent.{named_words}
 use Rattle.lent.proofs.Left.{word_few}
-use Rattle.log.specs.Limits.{max_events}
-use Rattle.log.specs.Layout.{workers_of}
-use Rattle.log.specs.Model.{Workers, worker_count}
+use Rattle.event_log.specs.Limits.{max_events}
+use Rattle.event_log.specs.Layout.{workers_of}
+use Rattle.event_log.specs.Model.{Workers, worker_count}
 use Rattle.accept.proofs.Accepted.{well_formed}
 use Rattle.causality.specs.Cut.{IsCut}
 use Rattle.unit_table.specs.Table.{Table, max_units, table_of}

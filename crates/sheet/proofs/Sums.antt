@@ -9,9 +9,9 @@ use Rattle.ranges.specs.Fold.{sum_below, tabulate}
 use Rattle.ranges.proofs.Sum.{sum_none, sum_more, sum_bound}
 use Rattle.ranges.proofs.Tabulate.{length_tabulate, get_d_tabulate, tabulate_list, tabulate_same, get_d_replicate_all}
 use Rattle.lent.specs.Lent.{at}
-use Rattle.log.specs.Limits.{max_events}
-use Rattle.log.specs.Layout.{workers_of}
-use Rattle.log.specs.Model.{Workers, worker_count}
+use Rattle.event_log.specs.Limits.{max_events}
+use Rattle.event_log.specs.Layout.{workers_of}
+use Rattle.event_log.specs.Model.{Workers, worker_count}
 use Rattle.accept.proofs.Accepted.{well_formed}
 use Rattle.causality.specs.Cut.{IsCut}
 use Rattle.unit_table.specs.Table.{Table, max_units, table_of}

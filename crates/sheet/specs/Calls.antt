@@ -2,7 +2,7 @@
 -- Assumes nothing.
 use Rattle.std.specs.Prelude.{List, ℕ, ◌*◌, length}
 use Rattle.lent.specs.Lent.{or_else, words_refusal, short_scratch, Left, leaves}
-use Rattle.log.specs.Model.{worker_count}
+use Rattle.event_log.specs.Model.{worker_count}
 use Rattle.accept.specs.Refusal.{Given}
 use Rattle.unit_table.specs.Table.{table_of, table_refusal}
 use Rattle.breakpoints.specs.Breakpoints.{list_refusal}

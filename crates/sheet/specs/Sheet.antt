@@ -3,7 +3,7 @@
 use Rattle.std.specs.Prelude.{cond, List, ℕ, ◌*◌, ◌/◌, ◌%◌, eqb, ltb}
 use Rattle.ranges.specs.Fold.{sum_below, tabulate}
 use Rattle.lent.specs.Lent.{at, word_of}
-use Rattle.log.specs.Model.{Workers, worker_count}
+use Rattle.event_log.specs.Model.{Workers, worker_count}
 use Rattle.lower_cut.specs.Figure2.{lower_cut}
 use Rattle.unit_table.specs.Table.{Table}
 use Rattle.cost.specs.Cost.{replayed, worker_units}

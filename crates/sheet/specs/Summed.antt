@@ -3,8 +3,8 @@
 use Rattle.std.specs.Prelude.{◌≡◌, List, [], ◌++◌, ℕ, ◌+◌, ◌-◌, ◌*◌, ◌%◌, ◌<◌, ◌≤◌, ltb, length, replicate}
 use Rattle.ranges.specs.Fold.{sum_below}
 use Rattle.lent.specs.Lent.{at, word_of}
-use Rattle.log.specs.Limits.{max_events}
-use Rattle.log.specs.Model.{Workers, worker_count}
+use Rattle.event_log.specs.Limits.{max_events}
+use Rattle.event_log.specs.Model.{Workers, worker_count}
 use Rattle.unit_table.specs.Table.{Table, max_units}
 use Rattle.cost.specs.Words.{cut_in, start_in, cuts_in, starts_in}
 use Rattle.cost.specs.Cost.{worker_units}

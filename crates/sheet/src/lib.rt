@@ -4,8 +4,8 @@
 ghost use Rattle.std.specs.Prelude.{◌≡◌, [], ◌∷◌, ℕ, ◌+◌, ◌*◌, ◌^◌, ◌<◌, ◌≤◌, length, take, replicate};
 ghost use Rattle.ranges.specs.Fold.{tabulate};
 ghost use Rattle.lent.specs.Lent.{onto, left, KeptIfRefused};
-ghost use Rattle.log.specs.Layout.{workers_of};
-ghost use Rattle.log.specs.Model.{worker_count};
+ghost use Rattle.event_log.specs.Layout.{workers_of};
+ghost use Rattle.event_log.specs.Model.{worker_count};
 ghost use Rattle.accept.specs.Refusal.{log_refusal, given};
 ghost use Rattle.unit_table.specs.Table.{table_of, table_refusal};
 ghost use Rattle.cost.specs.Words.{cuts_in, starts_in};
@@ -114,7 +114,7 @@ fn sum_list(
         × (3 * worker_count (workers_of log.now) ≤ length sheet.old) }
     ensures sheet { sheet.new ≡ onto (sheet_words (table_of table.now) (workers_of log.now) list.now) sheet.old }
 {
-    let n = log::worker_count(log);
+    let n = event_log::worker_count(log);
     let all = COLUMNS * n;
     lent::clear_wide(&mut sheet[..all]);
     add_list(
@@ -135,7 +135,7 @@ fn sheet_refusal(log: &[u8], list: &[u32], table: &[u32], sheet: usize, scratch:
     if refusal != 0 {
         return refusal;
     }
-    let n = log::worker_count(log);
+    let n = event_log::worker_count(log);
     let short = lent::words_refusal(sheet, COLUMNS * n);
     let room = lent::short_scratch(scratch, SCRATCH_ROWS * n);
     let loading = unit_table::table_refusal(table);

@@ -13,7 +13,7 @@ use lib.Seq.{get_or-set_same, get_or-set_other}
 use Rattle.ranges.specs.Fold.{tabulate}
 use Rattle.ranges.proofs.Order.{lt_or_le, at_or_other}
 use Rattle.ranges.proofs.Tabulate.{length_tabulate, get_d_tabulate, tabulate_list}
-use Rattle.log.specs.Model.{Workers, worker_count}
+use Rattle.event_log.specs.Model.{Workers, worker_count}
 use Rattle.lent.specs.Lent.{at}
 use Rattle.restore_plan.specs.Plan.{identifier_of, identifier_at, plan_starts, plan_word, plan_words}
 use Rattle.cost.specs.Words.{cut_in, start_in, identifier_in}

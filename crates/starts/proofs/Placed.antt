@@ -13,8 +13,8 @@ use lib.Seq.{get_or-set_same, get_or-set_other}
 use Rattle.ranges.proofs.First.{last, last_none, last_more}
 use Rattle.ranges.proofs.Order.{lt_or_le}
 use Rattle.ranges.proofs.Bools.{and_true_left, and_true_right}
-use Rattle.log.specs.Model.{Workers, checkpoint_of}
-use Rattle.log.proofs.Read.{checkpoint_initial}
+use Rattle.event_log.specs.Model.{Workers, checkpoint_of}
+use Rattle.event_log.proofs.Read.{checkpoint_initial}
 use Rattle.choice.specs.Choice.{may_choose}
 use Rattle.cost.specs.Words.{cut_in, start_in, identifier_in}
 use Rattle.choice.proofs.Choosable.{may_initial}

@@ -17,10 +17,10 @@ use Rattle.ranges.proofs.Sum.{sum_lt}
 use Rattle.ranges.proofs.Tabulate.{length_tabulate, get_d_tabulate_past}
 use Rattle.records.specs.declared.Event.{Event}
 use Rattle.records.specs.declared.Checkpoint.{Checkpoint}
-use Rattle.log.specs.Model.{Workers, worker_count, event_of, checkpoint_count, checkpoint_of, IsEvent}
+use Rattle.event_log.specs.Model.{Workers, worker_count, event_of, checkpoint_count, checkpoint_of, IsEvent}
 use Rattle.records.specs.Event.{is_unlogged}
-use Rattle.log.proofs.Read.{worker_within, count_past}
-use Rattle.log.specs.Layout.{workers_of}
+use Rattle.event_log.proofs.Read.{worker_within, count_past}
+use Rattle.event_log.specs.Layout.{workers_of}
 use Rattle.accept.specs.Refusal.{log_refusal}
 use Rattle.accept.specs.WellFormed.{WellFormed}
 use Rattle.accept.proofs.Accepted.{well_formed}

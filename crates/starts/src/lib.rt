@@ -3,8 +3,8 @@
 ghost use Rattle.std.specs.Prelude.{◌≡◌, ◌+◌, ◌*◌, ◌<◌, ◌≤◌, length};
 ghost use Rattle.ranges.specs.Fold.{first_below};
 ghost use Rattle.lent.specs.Lent.{at};
-ghost use Rattle.log.specs.Layout.{workers_of};
-ghost use Rattle.log.specs.Model.{worker_count, event_of, IsEvent};
+ghost use Rattle.event_log.specs.Layout.{workers_of};
+ghost use Rattle.event_log.specs.Model.{worker_count, event_of, IsEvent};
 ghost use Rattle.accept.specs.Refusal.{log_refusal};
 ghost use Rattle.causality.specs.Cut.{IsCut};
 ghost use Rattle.restore_plan.specs.Plan.{plan_words};
@@ -30,7 +30,7 @@ fn may_start_below(log: &[u8], w: usize, bound: u32, c: u32) -> bool
     if !may_choose(log, w, c) {
         return false;
     }
-    let point = log::checkpoint_at(log, w, c);
+    let point = event_log::checkpoint_at(log, w, c);
     point.index < bound
 }
 
@@ -54,7 +54,7 @@ fn place(log: &[u8], words: &mut [u32], w: usize, c: u32)
     requires { (log_refusal log.now ≡ 0) × (3 * w + 3 ≤ length words.old) }
     ensures words { words.new ≡ placed (workers_of log.now) words.old w c }
 {
-    let point = log::checkpoint_at(log, w, c);
+    let point = event_log::checkpoint_at(log, w, c);
     words[3 * w + 1] = point.index;
     words[3 * w + 2] = c;
 }
@@ -66,11 +66,11 @@ fn begin(log: &[u8], words: &mut [u32], looked: &mut [u32])
     ensures begun { RollingBack (workers_of log.now) (cuts_in (workers_of log.now) words.old)
         words.new looked.new }
 {
-    let n = log::worker_count(log);
+    let n = event_log::worker_count(log);
     let mut w: usize = 0;
     while w < n {
         let cut = cut_in(words, w);
-        let c = number_below(log, w, log::checkpoint_count(log, w), cut + 1);
+        let c = number_below(log, w, event_log::checkpoint_count(log, w), cut + 1);
         place(log, words, w, c);
         looked[w] = cut;
         w += 1;
@@ -83,7 +83,7 @@ fn resend(log: &[u8], words: &mut [u32], w: usize, x: u32)
     ensures words { words.new
         ≡ resent (workers_of log.now) (event_of (workers_of log.now) w x) words.old }
 {
-    let e = log::event_at(log, w, x);
+    let e = event_log::event_at(log, w, x);
     let p = e.peer as usize;
     if !loses_send(e, start_in(words, p)) {
         return;
@@ -131,7 +131,7 @@ fn settle(log: &[u8], words: &mut [u32], looked: &mut [u32])
         × (RollingBack (workers_of log.now) (cuts_in (workers_of log.now) words.old) words.old looked.old) }
     ensures settled { Settled (workers_of log.now) (cuts_in (workers_of log.now) words.old) words.new }
 {
-    let n = log::worker_count(log);
+    let n = event_log::worker_count(log);
     let mut w = next(words, looked, n);
     while w < n {
         look_worker(log, words, looked, w);
@@ -144,10 +144,10 @@ fn finish(log: &[u8], words: &mut [u32])
     requires { (log_refusal log.now ≡ 0) × (length words.old ≡ 3 * worker_count (workers_of log.now)) }
     ensures words { words.new ≡ finished (workers_of log.now) words.old }
 {
-    let n = log::worker_count(log);
+    let n = event_log::worker_count(log);
     let mut w: usize = 0;
     while w < n {
-        let point = log::checkpoint_at(log, w, number_in(words, w));
+        let point = event_log::checkpoint_at(log, w, number_in(words, w));
         words[3 * w + 2] = point.identifier;
         w += 1;
     }

@@ -9,9 +9,9 @@ use Rattle.bytes_le.specs.Little.{le}
 use Rattle.records.specs.declared.Kind.TheVariants.{Send, Unlogged, Logged}
 use Rattle.records.specs.Forms.{marks_withdrawn}
 use Rattle.records.specs.Mark.{has_mark, without_mark}
-use Rattle.log.specs.Model.{Workers, worker_count, worker, role_of, event_count, event_of, checkpoint_count, checkpoint_of}
+use Rattle.event_log.specs.Model.{Workers, worker_count, worker, role_of, event_count, event_of, checkpoint_count, checkpoint_of}
 use Rattle.records.specs.Event.{is_send, is_unlogged, is_logged, is_receive, event_record}
-use Rattle.log.specs.Layout.{field, section, event_section, checkpoint_section, worker_of, workers_of}
+use Rattle.event_log.specs.Layout.{field, section, event_section, checkpoint_section, worker_of, workers_of}
 use Rattle.records.specs.Checkpoint.{checkpoint_record}
 use Rattle.accept.specs.Tube.{tube, tube_log}
 use Rattle.accept.proofs.Tube.{tube_workers}

@@ -2,7 +2,7 @@
 -- worker 0.
 -- Assumes nothing.
 use Rattle.std.specs.Prelude.{◌≡◌, true, false, List, [], ◌∷◌, ℕ, set}
-use Rattle.log.specs.Model.{Workers}
+use Rattle.event_log.specs.Model.{Workers}
 use Rattle.accept.specs.Tube.{tube}
 use Rattle.causality.specs.Cut.{vector, is_consistent}
 use Rattle.lower_cut.specs.Figure2.{figure2, lower_cut}

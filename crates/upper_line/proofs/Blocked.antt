@@ -9,8 +9,8 @@ use native.Mathlib.Omega.{arith}
 use borrow.Author.Tests.{le-ltb, ne_eqb}
 use lib.Dec.{eqb, ltb}
 use Rattle.records.specs.declared.Event.{Event}
-use Rattle.log.specs.Layout.{workers_of}
-use Rattle.log.specs.Model.{event_count, event_of}
+use Rattle.event_log.specs.Layout.{workers_of}
+use Rattle.event_log.specs.Model.{event_count, event_of}
 use Rattle.records.specs.Event.{is_receive}
 use Rattle.accept.specs.Refusal.{log_refusal}
 use Rattle.lent.specs.Lent.{at}

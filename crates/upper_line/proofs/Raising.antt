@@ -17,10 +17,10 @@ use Rattle.ranges.proofs.Store.{set_cases, set_grows}
 use Rattle.ranges.proofs.Sum.{sum_lt}
 use Rattle.ranges.proofs.Tabulate.{get_d_replicate_all}
 use Rattle.records.specs.declared.Event.{Event}
-use Rattle.log.specs.Limits.{max_workers, max_events}
-use Rattle.log.specs.Model.{Workers, worker_count, event_count, event_of, IsEvent}
+use Rattle.event_log.specs.Limits.{max_workers, max_events}
+use Rattle.event_log.specs.Model.{Workers, worker_count, event_count, event_of, IsEvent}
 use Rattle.records.specs.Event.{is_receive}
-use Rattle.log.proofs.Read.{worker_within}
+use Rattle.event_log.proofs.Read.{worker_within}
 use Rattle.accept.specs.WellFormed.{WellFormed}
 use Rattle.accept.proofs.Stamps.{stamps_grow}
 use Rattle.causality.specs.Happened.{HappenedBefore, earlier, message, through}

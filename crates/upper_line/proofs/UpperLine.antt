@@ -14,9 +14,9 @@ use Rattle.ranges.specs.Fold.{first_below}
 use Rattle.ranges.proofs.First.{IsFirst, first}
 use Rattle.ranges.proofs.Order.{lt_or_le, eq_or_ne}
 use Rattle.ranges.proofs.Tabulate.{length_tabulate, get_d_tabulate, get_d_tabulate_past}
-use Rattle.log.specs.Model.{Workers, worker_count, event_count, event_of, IsEvent}
+use Rattle.event_log.specs.Model.{Workers, worker_count, event_count, event_of, IsEvent}
 use Rattle.records.specs.Event.{is_receive}
-use Rattle.log.proofs.Read.{worker_within}
+use Rattle.event_log.proofs.Read.{worker_within}
 use Rattle.accept.specs.WellFormed.{WellFormed}
 use Rattle.causality.specs.Happened.{HappenedBefore, earlier, message, through}
 use Rattle.lent.specs.Lent.{at}

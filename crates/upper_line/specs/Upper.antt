@@ -2,7 +2,7 @@
 -- Assumes nothing.
 use Rattle.std.specs.Prelude.{Bool, not, ◌&&◌, List, ℕ, ◌+◌, eqb, leb}
 use Rattle.ranges.specs.Fold.{first_below, tabulate}
-use Rattle.log.specs.Model.{Workers, worker_count, event_count}
+use Rattle.event_log.specs.Model.{Workers, worker_count, event_count}
 use Rattle.lent.specs.Lent.{at}
 use Rattle.lower_cut.specs.Figure2.{lower_cut}
 

@@ -2,8 +2,8 @@
 
 ghost use Rattle.std.specs.Prelude.{◌≡◌, ◌≢◌, [], ◌∷◌, ◌+◌, ◌<◌, ◌≤◌, length};
 ghost use Rattle.lent.specs.Lent.{left};
-ghost use Rattle.log.specs.Layout.{workers_of};
-ghost use Rattle.log.specs.Model.{worker_count, event_count, IsEvent};
+ghost use Rattle.event_log.specs.Layout.{workers_of};
+ghost use Rattle.event_log.specs.Model.{worker_count, event_count, IsEvent};
 ghost use Rattle.accept.specs.Refusal.{log_refusal, given};
 ghost use Rattle.upper_line.specs.Upper.{upper_line};
 ghost use Rattle.upper_line.specs.Calls.{upper_line_call};
@@ -15,7 +15,7 @@ fn is_blocked(log: &[u8], i: usize, event: u32, w: usize, k: u32, line: &[u32]) 
     requires { (log_refusal log.now ≡ 0) × (length line.now ≡ worker_count (workers_of log.now)) × (k < event_count (workers_of log.now) w) × (0 < event) }
     ensures answer { result ≡ blocked (workers_of log.now) i event line.now w k }
 {
-    let e = log::event_at(log, w, k + 1);
+    let e = event_log::event_at(log, w, k + 1);
     let peer = e.peer as usize;
     if line[peer] < e.send {
         return true;
@@ -39,7 +39,7 @@ fn raise(log: &[u8], i: usize, event: u32, w: usize, target: u32, line: &mut [u3
             line[w] = k + 1;
             continue;
         }
-        let e = log::event_at(log, w, k + 1);
+        let e = event_log::event_at(log, w, k + 1);
         let sender = e.peer as usize;
         if sender == i {
             return;
@@ -59,7 +59,7 @@ fn raise_worker(log: &[u8], i: usize, event: u32, w: usize, line: &mut [u32])
     if w == i {
         return;
     }
-    let count = log::event_count(log, w);
+    let count = event_log::event_count(log, w);
     raise(log, i, event, w, count, line);
 }
 
@@ -70,7 +70,7 @@ fn upper_into(log: &[u8], i: usize, event: u32, line: &mut [u32])
 {
     lent::clear(line);
     line[i] = event;
-    let n = log::worker_count(log);
+    let n = event_log::worker_count(log);
     let mut w: usize = 0;
     while w < n {
         raise_worker(log, i, event, w, line);
@@ -86,7 +86,7 @@ pub fn upper_line(log: &[u8], worker: u32, event: u32, words: &mut [u32]) -> u32
     if refusal != 0 {
         return refusal;
     }
-    let n = log::worker_count(log);
+    let n = event_log::worker_count(log);
     upper_into(log, worker as usize, event, &mut words[..n]);
     0
 }

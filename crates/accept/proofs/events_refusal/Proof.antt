@@ -3,7 +3,7 @@
 use mathlib.Core.Path.{◌≡◌, sym, ◌∙◌}
 use mathlib.Core.Bool.{false}
 use Rattle.ranges.proofs.Bools.{said_false}
-use Rattle.log.specs.Layout.{workers_of}
+use Rattle.event_log.specs.Layout.{workers_of}
 use Rattle.record_tests.specs.Records.{some_record}
 use Rattle.accept.specs.Refusal.{events_refusal}
 use Rattle.accept.proofs.Quick.{quick_none}

@@ -6,7 +6,7 @@ use native.Mathlib.Nat.{le_antisymm}
 use native.Mathlib.Omega.{arith}
 use Rattle.lent.specs.Lent.{first_of}
 use Rattle.lent.proofs.FirstOf.{first_of_none, first_of_more, first_of_zero}
-use Rattle.log.specs.Layout.{workers_of}
+use Rattle.event_log.specs.Layout.{workers_of}
 use Rattle.breakpoints.specs.Breakpoints.{listed_refusal, earliest_refusal}
 use Rattle.breakpoints.proofs.Allowed.{earliest_decides, listed_within, listed_by}
 use borrow.Author.Rules.{rules}

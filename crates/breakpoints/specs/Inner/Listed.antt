@@ -1,7 +1,7 @@
 -- A list that is not refused.
 -- Assumes nothing.
 use Rattle.std.specs.Prelude.{◌≡◌, List, ℕ, ◌*◌, ◌<◌, ◌≤◌, length}
-use Rattle.log.specs.Model.{Workers, worker_count, IsEvent}
+use Rattle.event_log.specs.Model.{Workers, worker_count, IsEvent}
 use Rattle.breakpoints.specs.Breakpoints.{max_breakpoints, listed_worker, listed_event, breakpoint_count}
 
 -- two words for each of at most 1,024 breakpoints, each of them an event of the log

@@ -7,4 +7,4 @@ use Rattle.bytes_le.proofs.read2.Goals as goal
 
 pub returns : goal.returns
 unfolding le
-returns c = record { answer = simp add-zero (omega arith); }
+returns c = record { answer = simp add-zero (omega arith) }

@@ -7,4 +7,4 @@ pub overflow_cast-result : goal.overflow_cast-result
 overflow_cast-result c = omega (arith, c.shared_slice_known-1.given c.args.at)
 
 pub returns : goal.returns
-returns c = record { answer = search rules; small = omega (arith, c.shared_slice_known-1.given c.args.at); }
+returns c = record { answer = search rules; small = omega (arith, c.shared_slice_known-1.given c.args.at) }

@@ -9,4 +9,4 @@ use Rattle.bytes_le.proofs.write1.Goals as goal
 
 pub returns : goal.returns
 unfolding bytes_of
-returns c = let low : c.args.x % 256 ≡ c.args.x = mod-eq_of_lt c.ranges.x.fits in record { bytes = rw low (overwrite_one c.args.at c.args.out.now c.args.x (omega (arith, c.requires))); }
+returns c = let low : c.args.x % 256 ≡ c.args.x = mod-eq_of_lt c.ranges.x.fits in record { bytes = rw low (overwrite_one c.args.at c.args.out.now c.args.x (omega (arith, c.requires))) }

@@ -13,4 +13,4 @@ bounds-out-at-2 c = simp length-set (omega (arith, c.requires))
 
 pub returns : goal.returns
 unfolding bytes_of store_each
-returns c = let one : c.args.at + 1 ≡ suc c.args.at = omega arith in record { bytes = rw one (stored_at c.args.at (bytes_of 2 c.args.x) c.args.out.now c.requires); }
+returns c = let one : c.args.at + 1 ≡ suc c.args.at = omega arith in record { bytes = rw one (stored_at c.args.at (bytes_of 2 c.args.x) c.args.out.now c.requires) }

@@ -25,4 +25,4 @@ returns c = let at = c.args.at in
     let two : at + 2 ≡ suc (suc at) = omega arith in
     let three : at + 3 ≡ suc (suc (suc at)) = omega arith in
     let third : x / 65536 % 256 ≡ x / 256 / 256 % 256 = omega arith in
-    let fourth : x / 16777216 % 256 ≡ x / 256 / 256 / 256 % 256 = omega arith in record { bytes = rw (one, two, three, third, fourth) (stored_at at (bytes_of 4 x) c.args.out.now c.requires); }
+    let fourth : x / 16777216 % 256 ≡ x / 256 / 256 / 256 % 256 = omega arith in record { bytes = rw (one, two, three, third, fourth) (stored_at at (bytes_of 4 x) c.args.out.now c.requires) }

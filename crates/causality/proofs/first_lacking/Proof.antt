@@ -3,7 +3,7 @@
 use Prim.Native.Nat.{◌-◌}
 use native.Mathlib.Omega.{arith}
 use Rattle.ranges.proofs.First.{Looked, looked_none, looked_more, looked_found, looked_end}
-use Rattle.log.specs.Layout.{workers_of}
+use Rattle.event_log.specs.Layout.{workers_of}
 use Rattle.causality.specs.Cut.{lacks}
 use Rattle.causality.proofs.first_lacking.Statement.{statement}
 use Rattle.causality.proofs.first_lacking.Tie as tie

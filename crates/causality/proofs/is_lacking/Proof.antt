@@ -2,7 +2,7 @@
 -- which is above no word, so one comparison serves both kinds (`lacks_any`). Assumes nothing.
 use native.Mathlib.Nat.{lt_of_lt_of_le}
 use native.Mathlib.Omega.{arith}
-use Rattle.log.proofs.Read.{count_field}
+use Rattle.event_log.proofs.Read.{count_field}
 use Rattle.accept.proofs.Accepted.{accepted_layout}
 use Rattle.causality.proofs.Peers.{peer_within, lacks_any}
 use borrow.Author.Rules.{rules}

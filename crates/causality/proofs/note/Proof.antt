@@ -1,7 +1,7 @@
 -- `causality::note` meets its contract: the word of a receive's peer becomes the larger of itself and the send named; a send names 0, and
 -- the larger is then the word as it was (`noted_any`). Assumes nothing.
 use native.Mathlib.Omega.{arith}
-use Rattle.log.proofs.Read.{count_field}
+use Rattle.event_log.proofs.Read.{count_field}
 use Rattle.accept.proofs.Accepted.{accepted_layout}
 use Rattle.causality.proofs.Peers.{peer_within, noted_any}
 use borrow.Author.Rules.{rules}

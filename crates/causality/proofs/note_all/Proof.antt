@@ -6,7 +6,7 @@ use native.Mathlib.Nat.{le_antisymm}
 use native.Mathlib.Omega.{arith}
 use borrow.Author.Rules.{rules}
 use lib.ListN.{length-replicate}
-use Rattle.log.specs.Layout.{workers_of}
+use Rattle.event_log.specs.Layout.{workers_of}
 use Rattle.causality.specs.Inner.Row.{named_row}
 use Rattle.causality.proofs.Row.{row_none, row_length, row_more}
 use Rattle.causality.proofs.note_all.Statement.{statement}

@@ -5,7 +5,7 @@ use Prim.Native.Nat.{◌-◌}
 use native.Mathlib.Omega.{arith}
 use borrow.Author.Tests.{lt-ltb, le-ltb}
 use Rattle.ranges.proofs.Any.{Sought, sought_none, sought_more, sought_found, sought_end}
-use Rattle.log.specs.Layout.{workers_of}
+use Rattle.event_log.specs.Layout.{workers_of}
 use Rattle.accept.proofs.Accepted.{accepted_layout}
 use Rattle.refusals.specs.Refusals.{over_count}
 use Rattle.causality.proofs.some_over_count.Statement.{statement}

@@ -5,7 +5,7 @@ use borrow.Author.Tests.{ne_eqb}
 use lib.ListN.{length}
 use Rattle.lent.specs.Lent.{or_else}
 use Rattle.lent.proofs.Lent.{or_else_zero, or_else_first, or_else_second, words_ok}
-use Rattle.log.specs.Layout.{workers_of}
+use Rattle.event_log.specs.Layout.{workers_of}
 use Rattle.accept.specs.Refusal.{given}
 use Rattle.accept.proofs.Accepted.{accepted_layout}
 use Rattle.refusals.specs.Refusals.{cut_refusal, test_refusal}

@@ -3,7 +3,7 @@
 use Rattle.std.specs.Prelude.{cond, List, ℕ, max, leb, set}
 use Rattle.ranges.specs.Fold.{max_below, tabulate}
 use Rattle.records.specs.declared.Event.{Event}
-use Rattle.log.specs.Model.{Workers, worker_count}
+use Rattle.event_log.specs.Model.{Workers, worker_count}
 use Rattle.records.specs.Event.{is_receive}
 use Rattle.lent.specs.Lent.{at}
 use Rattle.causality.specs.Cut.{named_of}

@@ -4,7 +4,7 @@ use mathlib.Core.Path.{◌≡◌}
 use Prim.Native.Nat.{ℕ, ◌+◌, ◌-◌, ◌*◌, ◌≤◌}
 use native.Mathlib.Omega.{arith}
 use Rattle.records.specs.declared.Kind.TheVariants.{Send, Unlogged, Logged}
-use Rattle.log.specs.Limits.{max_events}
+use Rattle.event_log.specs.Limits.{max_events}
 use Rattle.unit_table.specs.Table.{max_units, table_of}
 use Rattle.unit_table.proofs.Loaded.{loaded_long}
 use Rattle.cost.specs.Inner.Counted.{counted_units}

@@ -6,7 +6,7 @@ use native.Mathlib.Omega.{arith}
 use native.Mathlib.Nat.{le_antisymm}
 use Rattle.ranges.specs.Fold.{sum_below}
 use Rattle.ranges.proofs.Sum.{sum_none}
-use Rattle.log.specs.Layout.{workers_of}
+use Rattle.event_log.specs.Layout.{workers_of}
 use Rattle.accept.proofs.Accepted.{accepted_layout}
 use Rattle.cost.specs.Words.{cuts_in, starts_in}
 use Rattle.cost.specs.Cost.{replayed, events_of}

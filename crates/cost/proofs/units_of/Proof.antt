@@ -6,8 +6,8 @@ use native.Mathlib.Omega.{arith}
 use native.Mathlib.Nat.{le_antisymm}
 use Rattle.ranges.specs.Fold.{sum_below}
 use Rattle.ranges.proofs.Sum.{sum_none, sum_more}
-use Rattle.log.specs.Layout.{workers_of}
-use Rattle.log.specs.Model.{worker_count}
+use Rattle.event_log.specs.Layout.{workers_of}
+use Rattle.event_log.specs.Model.{worker_count}
 use Rattle.accept.proofs.Accepted.{accepted_layout}
 use Rattle.cost.specs.Words.{cuts_in, starts_in}
 use Rattle.unit_table.specs.Table.{table_of}

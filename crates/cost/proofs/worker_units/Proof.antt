@@ -6,9 +6,9 @@ use native.Mathlib.Omega.{arith}
 use native.Mathlib.Nat.{le_antisymm}
 use borrow.Author.Rules.{rules}
 use Rattle.records.specs.declared.Event.{Event}
-use Rattle.log.specs.Limits.{max_events}
-use Rattle.log.specs.Layout.{workers_of}
-use Rattle.log.specs.Model.{event_count, event_of}
+use Rattle.event_log.specs.Limits.{max_events}
+use Rattle.event_log.specs.Layout.{workers_of}
+use Rattle.event_log.specs.Model.{event_count, event_of}
 use Rattle.accept.proofs.Accepted.{accepted_layout, well_formed}
 use Rattle.unit_table.specs.Table.{table_of}
 use Rattle.cost.specs.Cost.{worker_units}

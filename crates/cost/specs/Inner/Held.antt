@@ -1,7 +1,7 @@
 -- Plan words that are held over a log.
 -- Assumes nothing.
 use Rattle.std.specs.Prelude.{◌≡◌, List, ℕ, ◌*◌, length}
-use Rattle.log.specs.Model.{Workers, worker_count}
+use Rattle.event_log.specs.Model.{Workers, worker_count}
 use Rattle.causality.specs.Cut.{Within, IsCut}
 use Rattle.cost.specs.Words.{cuts_in, starts_in}
 

@@ -7,7 +7,7 @@ use native.Mathlib.Omega.{arith}
 use Rattle.ranges.specs.Fold.{any_below}
 use Rattle.ranges.proofs.Any.{any_none, any_more}
 use Rattle.ranges.proofs.First.{first_found, first_none}
-use Rattle.log.specs.Layout.{workers_of}
+use Rattle.event_log.specs.Layout.{workers_of}
 use Rattle.accept.proofs.Accepted.{accepted_layout}
 use Rattle.covering.specs.Covering.{is_set}
 use Rattle.covering.specs.Inner.Looked.{first_set}

@@ -11,7 +11,7 @@ use lib.ListN.{length, drop}
 use Rattle.ranges.specs.Fold.{any_below, tabulate}
 use Rattle.ranges.proofs.Any.{any_none, any_more, any_found}
 use Rattle.ranges.proofs.Tabulate.{store_none, store_more, store_length}
-use Rattle.log.specs.Layout.{workers_of}
+use Rattle.event_log.specs.Layout.{workers_of}
 use Rattle.accept.proofs.Accepted.{accepted_layout, well_formed}
 use Rattle.covering.specs.Covering.{without_set, set_index, set_starts}
 use Rattle.covering.proofs.SetNumber.{without_number, index_number}

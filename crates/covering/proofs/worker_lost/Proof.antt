@@ -4,7 +4,7 @@ use mathlib.Core.Path.{sym, ◌∙◌}
 use Prim.Native.Nat.{◌-◌}
 use native.Mathlib.Omega.{arith}
 use Rattle.ranges.proofs.Any.{Sought, sought_none, sought_more, sought_found, sought_end}
-use Rattle.log.specs.Layout.{workers_of}
+use Rattle.event_log.specs.Layout.{workers_of}
 use Rattle.accept.proofs.Accepted.{accepted_layout}
 use Rattle.choice.specs.Choice.{lost_at, worker_lost}
 use Rattle.covering.proofs.CoveringSet.{all_at}

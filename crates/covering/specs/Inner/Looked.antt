@@ -2,7 +2,7 @@
 -- Assumes nothing.
 use Rattle.std.specs.Prelude.{ℕ, ◌+◌}
 use Rattle.ranges.specs.Fold.{first_below}
-use Rattle.log.specs.Model.{Workers, checkpoint_count}
+use Rattle.event_log.specs.Model.{Workers, checkpoint_count}
 use Rattle.covering.specs.Covering.{is_set}
 
 -- the number of worker w's checkpoint t, and the number after the last where there is none

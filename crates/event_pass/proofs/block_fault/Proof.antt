@@ -3,7 +3,7 @@
 use Prim.Native.Nat.{◌+◌, ◌-◌}
 use native.Mathlib.Omega.{arith}
 use borrow.Author.Rules.{rules}
-use Rattle.log.specs.Layout.{workers_of}
+use Rattle.event_log.specs.Layout.{workers_of}
 use Rattle.ranges.proofs.Any.{any_each, Sought, sought_none, sought_more, sought_found, sought_end}
 use Rattle.event_pass.specs.Inner.Blocks.{block_size, fault_within, some_within}
 use Rattle.event_pass.proofs.block_fault.Statement.{statement}

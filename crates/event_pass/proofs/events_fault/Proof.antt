@@ -3,8 +3,8 @@
 use mathlib.Core.Path.{◌≡◌, sym, ◌∙◌}
 use Prim.Native.Nat.{◌+◌, min}
 use native.Mathlib.Omega.{arith}
-use Rattle.log.specs.Layout.{workers_of}
-use Rattle.log.specs.Model.{event_count}
+use Rattle.event_log.specs.Layout.{workers_of}
+use Rattle.event_log.specs.Model.{event_count}
 use Rattle.event_pass.specs.Inner.Blocks.{block_size, fault_within, Lists}
 use Rattle.event_pass.proofs.Blocks.{within_before, within_past}
 use Rattle.event_pass.proofs.Lists.{listed_decide}

@@ -7,9 +7,9 @@ use native.Mathlib.Omega.{arith}
 use lib.ListN.{length, length-set}
 use Rattle.ranges.proofs.Any.{any_found}
 use Rattle.records.specs.declared.Event.{Event}
-use Rattle.log.specs.Layout.{workers_of}
-use Rattle.log.specs.Model.{event_of}
-use Rattle.log.proofs.Read.{next_within, next_event}
+use Rattle.event_log.specs.Layout.{workers_of}
+use Rattle.event_log.specs.Model.{event_of}
+use Rattle.event_log.proofs.Read.{next_within, next_event}
 use Rattle.record_tests.specs.Records.{event_fault, record_fault}
 use Rattle.event_pass.specs.Inner.Message.{own_fault}
 use Rattle.event_pass.specs.Inner.Blocks.{block_size, Lists}

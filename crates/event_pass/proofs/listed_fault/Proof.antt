@@ -5,9 +5,9 @@ use Prim.Native.Nat.{◌+◌, ◌-◌}
 use native.Mathlib.Omega.{arith}
 use Rattle.ranges.proofs.Any.{Sought, sought_none, sought_more, sought_found, sought_end}
 use Rattle.lent.specs.Lent.{at}
-use Rattle.log.specs.Layout.{workers_of}
-use Rattle.log.specs.Model.{event_of}
-use Rattle.log.proofs.Read.{count_field, next_within, next_event}
+use Rattle.event_log.specs.Layout.{workers_of}
+use Rattle.event_log.specs.Model.{event_of}
+use Rattle.event_log.proofs.Read.{count_field, next_within, next_event}
 use Rattle.event_pass.specs.Inner.Message.{naming_fault}
 use Rattle.event_pass.specs.Inner.Blocks.{listed_fault, NamesAnother}
 use borrow.Author.Rules.{rules}

@@ -5,9 +5,9 @@ use Prim.Native.Nat.{◌-◌, ◌≤◌}
 use native.Mathlib.Omega.{arith}
 use Rattle.ranges.specs.Fold.{max_below}
 use Rattle.ranges.proofs.Max.{max_none, max_more, max_least}
-use Rattle.log.specs.Layout.{workers_of}
-use Rattle.log.specs.Model.{event_count}
-use Rattle.log.proofs.Read.{count_field}
+use Rattle.event_log.specs.Layout.{workers_of}
+use Rattle.event_log.specs.Model.{event_count}
+use Rattle.event_log.proofs.Read.{count_field}
 use borrow.Author.Rules.{rules}
 use Rattle.event_pass.proofs.most_events.Statement.{statement}
 use Rattle.event_pass.proofs.most_events.Tie as tie

@@ -4,7 +4,7 @@ use mathlib.Core.Path.{◌≡◌, sym, ◌∙◌}
 use mathlib.Core.Bool.{false}
 use Prim.Native.Nat.{◌-◌}
 use native.Mathlib.Omega.{arith}
-use Rattle.log.specs.Layout.{workers_of}
+use Rattle.event_log.specs.Layout.{workers_of}
 use Rattle.event_pass.specs.Inner.Blocks.{some_within}
 use Rattle.event_pass.proofs.Blocks.{within_none, within_found, within_all}
 use borrow.Author.Rules.{rules}

@@ -4,7 +4,7 @@
 use Rattle.std.specs.Prelude.{◌≡◌, Bool, true, false, List, ℕ, min, ◌+◌, ◌<◌, ◌≤◌}
 use Rattle.ranges.specs.Fold.{any_below}
 use Rattle.lent.specs.Lent.{at}
-use Rattle.log.specs.Model.{Workers, worker_count, event_count, event_of}
+use Rattle.event_log.specs.Model.{Workers, worker_count, event_count, event_of}
 use Rattle.record_tests.specs.Records.{record_fault}
 use Rattle.event_pass.specs.Inner.Message.{is_naming, own_fault, naming_fault}
 

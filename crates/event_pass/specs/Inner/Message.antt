@@ -2,7 +2,7 @@
 -- Assumes nothing.
 use Rattle.std.specs.Prelude.{Bool, not, cond, ◌||◌, ℕ, eqb, leb}
 use Rattle.records.specs.declared.Event.{Event}
-use Rattle.log.specs.Model.{Workers}
+use Rattle.event_log.specs.Model.{Workers}
 use Rattle.records.specs.Event.{is_send, is_receive}
 use Rattle.record_tests.specs.Records.{peer_fault, source_fault, order_fault}
 

@@ -4,7 +4,7 @@ use Prim.Native.Nat.{◌+◌, ◌-◌, ◌≤◌}
 use native.Mathlib.Nat.{le_antisymm}
 use native.Mathlib.Omega.{arith}
 use borrow.Author.Rules.{rules}
-use Rattle.log.specs.Layout.{workers_of}
+use Rattle.event_log.specs.Layout.{workers_of}
 use Rattle.interval_blocks.specs.Inner.Blocks.{first_block}
 use Rattle.interval_blocks.proofs.BlockLaws.{first_none, first_more, first_few}
 use Rattle.interval_blocks.proofs.all_blocks.Statement.{statement}

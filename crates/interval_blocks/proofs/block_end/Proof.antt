@@ -3,7 +3,7 @@
 use mathlib.Core.Path.{ap}
 use Prim.Native.Nat.{◌≤◌}
 use native.Mathlib.Omega.{arith}
-use Rattle.log.specs.Limits.{max_events}
+use Rattle.event_log.specs.Limits.{max_events}
 use Rattle.intervals.specs.Interval.{index}
 use Rattle.interval_blocks.proofs.BlockLaws.{blocks_few, end_few}
 use borrow.Author.Rules.{rules}

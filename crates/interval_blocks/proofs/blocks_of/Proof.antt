@@ -3,7 +3,7 @@
 use Prim.Native.Nat.{◌/◌, ◌^◌, ◌≤◌}
 use native.Mathlib.Omega.{arith}
 use lib.Pow.{shr_le}
-use Rattle.log.specs.Limits.{max_events}
+use Rattle.event_log.specs.Limits.{max_events}
 use Rattle.interval_blocks.specs.Inner.Blocks.{blocks_of}
 use borrow.Author.Rules.{rules}
 use Rattle.interval_blocks.proofs.blocks_of.Statement.{statement}

@@ -5,8 +5,8 @@ use Prim.Native.Nat.{◌+◌, ◌-◌, ◌≤◌}
 use native.Mathlib.Nat.{le_antisymm}
 use native.Mathlib.Omega.{arith}
 use lib.ListN.{length, length-set}
-use Rattle.log.specs.Model.{worker_count}
-use Rattle.log.specs.Layout.{workers_of}
+use Rattle.event_log.specs.Model.{worker_count}
+use Rattle.event_log.specs.Layout.{workers_of}
 use Rattle.interval_blocks.proofs.BlockLaws.{first_more, blocks_before, first_few, Filled, filled_none, filled_more}
 use borrow.Author.Rules.{rules}
 use Rattle.interval_blocks.proofs.fill.Statement.{statement}

@@ -5,8 +5,8 @@ use Prim.Native.Nat.{◌-◌, ◌*◌, ◌^◌, ◌≤◌, min}
 use native.Mathlib.Nat.{le_antisymm}
 use native.Mathlib.Omega.{arith}
 use lib.ListN.{length, length-set}
-use Rattle.log.specs.Model.{event_count}
-use Rattle.log.specs.Layout.{workers_of}
+use Rattle.event_log.specs.Model.{event_count}
+use Rattle.event_log.specs.Layout.{workers_of}
 use Rattle.intervals.specs.declared.EventIndex.{EventIndex}
 use Rattle.intervals.specs.declared.IntervalNumber.{IntervalNumber}
 use Rattle.intervals.specs.Interval.{interval_at}

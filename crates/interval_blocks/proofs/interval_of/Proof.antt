@@ -5,8 +5,8 @@ use Prim.Native.Nat.{ℕ, ◌+◌, ◌/◌, ◌*◌, ◌%◌, ◌^◌, ◌<◌}
 use native.Mathlib.Nat.{le_refl, div-mul-le_self, mod-eq_of_lt}
 use native.Mathlib.Omega.{arith}
 use Rattle.lent.specs.Lent.{at}
-use Rattle.log.specs.Limits.{max_workers, max_events}
-use Rattle.log.proofs.Read.{count_field}
+use Rattle.event_log.specs.Limits.{max_workers, max_events}
+use Rattle.event_log.proofs.Read.{count_field}
 use Rattle.interval_blocks.proofs.BlockLaws.{first_few, place_before, place_within, place_holds}
 use borrow.Author.Rules.{rules}
 use Rattle.interval_blocks.proofs.interval_of.Statement.{statement}

@@ -3,7 +3,7 @@
 use Rattle.std.specs.Prelude.{◌≡◌, List, ℕ, ◌+◌, ◌*◌, ◌/◌, ◌^◌, ◌<◌, ◌≤◌, length}
 use Rattle.ranges.specs.Fold.{sum_below}
 use Rattle.lent.specs.Lent.{at}
-use Rattle.log.specs.Model.{Workers, worker_count, event_count}
+use Rattle.event_log.specs.Model.{Workers, worker_count, event_count}
 use Rattle.intervals.specs.Interval.{index, interval_at}
 
 -- the largest b: a block then has every event of a worker

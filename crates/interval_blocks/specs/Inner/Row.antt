@@ -2,7 +2,7 @@
 -- Assumes nothing.
 use Rattle.std.specs.Prelude.{◌≡◌, List, ℕ, ◌+◌, ◌<◌}
 use Rattle.lent.specs.Lent.{at}
-use Rattle.log.specs.Model.{Workers}
+use Rattle.event_log.specs.Model.{Workers}
 use Rattle.interval_blocks.specs.Inner.Blocks.{block_interval}
 
 -- the intervals where the first n blocks of worker w begin, from place `first` on; before it the table is as it was

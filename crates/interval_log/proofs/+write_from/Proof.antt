@@ -9,9 +9,9 @@ use native.Mathlib.Omega.{arith}
 use borrow.Author.Rules.{rules}
 use borrow.Fn.Kinds.{In, Out}
 use borrow.Fn.PlainCycle.{Measures, is, falls, and}
-use Rattle.log.specs.Header.{layout_refusal}
-use Rattle.log.specs.Layout.{workers_of}
-use Rattle.log.specs.Model.{worker_count}
+use Rattle.event_log.specs.Header.{layout_refusal}
+use Rattle.event_log.specs.Layout.{workers_of}
+use Rattle.event_log.specs.Model.{worker_count}
 use Rattle.accept.proofs.Accepted.{accepted_layout}
 use Rattle.interval_blocks.specs.Inner.Blocks.{most_bits, first_block}
 use Rattle.interval_blocks.proofs.BlockLaws.{blocks_least}

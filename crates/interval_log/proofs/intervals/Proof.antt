@@ -5,7 +5,7 @@ use native.Mathlib.Omega.{arith}
 use borrow.Author.Rules.{rules}
 use Rattle.lent.proofs.Lent.{put, untouched}
 use Rattle.bytes_le.specs.Little.{Bytes}
-use Rattle.log.specs.Layout.{workers_of}
+use Rattle.event_log.specs.Layout.{workers_of}
 use Rattle.pack.specs.declared.Packed.{Packed}
 use Rattle.pack.specs.Packed.{packed, packed_length}
 use Rattle.pack.proofs.Allowed.{answer_written}

@@ -9,9 +9,9 @@ use lib.ListN.{length}
 use Rattle.ranges.specs.Fold.{sum_below}
 use Rattle.ranges.proofs.Sum.{sum_none, sum_grows}
 use Rattle.records.specs.Checkpoint.{checkpoint_size}
-use Rattle.log.specs.Layout.{workers_of}
-use Rattle.log.specs.Model.{Workers, checkpoint_count, checkpoint_of}
-use Rattle.log.proofs.Read.{worker_within'}
+use Rattle.event_log.specs.Layout.{workers_of}
+use Rattle.event_log.specs.Model.{Workers, checkpoint_count, checkpoint_of}
+use Rattle.event_log.proofs.Read.{worker_within'}
 use Rattle.accept.proofs.Accepted.{accepted_layout, well_formed}
 use Rattle.pack.specs.Packed.{checkpoint_at}
 use Rattle.intervals.specs.Interval.{interval_workers}

@@ -7,8 +7,8 @@ use native.Mathlib.Omega.{arith}
 use borrow.Author.Rules.{rules}
 use mir.Syntax.{w64}
 use mir.Val.{Fits}
-use Rattle.log.specs.Model.{Workers, worker_count, event_count}
-use Rattle.log.specs.Layout.{header_of, workers_of}
+use Rattle.event_log.specs.Model.{Workers, worker_count, event_count}
+use Rattle.event_log.specs.Layout.{header_of, workers_of}
 use Rattle.accept.proofs.Accepted.{accepted_layout}
 use Rattle.pack.specs.Packed.{sections_size, start_of, numbers_of, entry_of}
 use Rattle.pack.proofs.Header.{entries_long}

@@ -10,9 +10,9 @@ use Rattle.ranges.specs.Fold.{sum_below}
 use Rattle.ranges.proofs.Bools.{said_false, said_true}
 use Rattle.ranges.proofs.Sum.{sum_none}
 use Rattle.records.specs.Event.{event_size, is_receive}
-use Rattle.log.specs.Layout.{workers_of}
-use Rattle.log.specs.Model.{Workers, event_count, event_of}
-use Rattle.log.proofs.Read.{next_within, next_event}
+use Rattle.event_log.specs.Layout.{workers_of}
+use Rattle.event_log.specs.Model.{Workers, event_count, event_of}
+use Rattle.event_log.proofs.Read.{next_within, next_event}
 use Rattle.accept.proofs.Accepted.{accepted_layout, well_formed}
 use Rattle.repeats.proofs.Places.{received_one, received_none}
 use Rattle.causality.specs.Cut.{receive_at}

@@ -3,8 +3,8 @@
 use mathlib.Core.Path.{◌∙◌}
 use native.Mathlib.Omega.{arith}
 use borrow.Author.Rules.{rules}
-use Rattle.log.specs.Layout.{workers_of}
-use Rattle.log.proofs.Read.{workers_few}
+use Rattle.event_log.specs.Layout.{workers_of}
+use Rattle.event_log.proofs.Read.{workers_few}
 use Rattle.accept.proofs.Accepted.{accepted_layout}
 use Rattle.pack.specs.Packed.{fields_of}
 use Rattle.pack.proofs.Writing.{header_within, packed_written}

@@ -3,8 +3,8 @@
 use mathlib.Core.Path.{◌∙◌}
 use native.Mathlib.Omega.{arith}
 use borrow.Author.Rules.{rules}
-use Rattle.log.specs.Layout.{workers_of}
-use Rattle.log.specs.Model.{event_count}
+use Rattle.event_log.specs.Layout.{workers_of}
+use Rattle.event_log.specs.Model.{event_count}
 use Rattle.pack.specs.Packed.{sections_size, sections_of}
 use Rattle.pack.proofs.Records.{events_all_long}
 use Rattle.pack.proofs.Writing.{more_at}

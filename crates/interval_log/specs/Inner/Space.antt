@@ -2,9 +2,9 @@
 -- Assumes nothing.
 use Rattle.std.specs.Prelude.{◌≡◌, List, ℕ, ◌<◌, ◌≤◌}
 use Rattle.records.specs.declared.Event.{Event}
-use Rattle.log.specs.Limits.{max_length}
-use Rattle.log.specs.Layout.{workers_of}
-use Rattle.log.specs.Model.{Workers, worker_count, event_count}
+use Rattle.event_log.specs.Limits.{max_length}
+use Rattle.event_log.specs.Layout.{workers_of}
+use Rattle.event_log.specs.Model.{Workers, worker_count, event_count}
 use Rattle.accept.specs.Refusal.{log_refusal}
 use Rattle.pack.specs.Packed.{packed_length}
 use Rattle.intervals.specs.declared.IntervalNumber.{IntervalNumber}

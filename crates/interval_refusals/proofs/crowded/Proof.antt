@@ -3,7 +3,7 @@
 use Prim.Native.Nat.{◌-◌}
 use native.Mathlib.Omega.{arith}
 use Rattle.ranges.proofs.Any.{Sought, sought_none, sought_more, sought_found, sought_end}
-use Rattle.log.specs.Layout.{workers_of}
+use Rattle.event_log.specs.Layout.{workers_of}
 use Rattle.accept.proofs.Accepted.{accepted_layout}
 use Rattle.interval_refusals.specs.Calls.{worker_crowded, crowded}
 use Rattle.interval_refusals.proofs.crowded.Statement.{statement}

@@ -7,7 +7,7 @@ use native.Mathlib.Omega.{arith}
 use borrow.Author.Rules.{rules}
 use Rattle.ranges.specs.Fold.{sum_below}
 use Rattle.ranges.proofs.Sum.{sum_none}
-use Rattle.log.specs.Layout.{workers_of}
+use Rattle.event_log.specs.Layout.{workers_of}
 use Rattle.intervals.proofs.IntervalModel.{kept_at, kept_more, kept_same, kept_few, interval_checkpoints}
 use Rattle.interval_refusals.proofs.kept_count.Statement.{statement}
 use Rattle.interval_refusals.proofs.kept_count.Tie as tie

@@ -3,7 +3,7 @@
 use native.Mathlib.Omega.{arith}
 use borrow.Author.Rules.{rules}
 use Rattle.ranges.proofs.Sum.{sum_none}
-use Rattle.log.specs.Layout.{workers_of}
+use Rattle.event_log.specs.Layout.{workers_of}
 use Rattle.causality.specs.Cut.{receive_at}
 use Rattle.pack.specs.Packed.{sections_size}
 use Rattle.intervals.proofs.IntervalModel.{interval_count}

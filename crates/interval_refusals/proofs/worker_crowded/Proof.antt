@@ -5,8 +5,8 @@ use Prim.Native.Nat.{◌+◌, ◌-◌, ◌<◌}
 use native.Mathlib.Omega.{arith}
 use borrow.Author.Rules.{rules}
 use Rattle.ranges.proofs.Any.{Sought, sought_none, sought_more, sought_found, sought_end}
-use Rattle.log.specs.Layout.{workers_of}
-use Rattle.log.specs.Model.{checkpoint_count}
+use Rattle.event_log.specs.Layout.{workers_of}
+use Rattle.event_log.specs.Model.{checkpoint_count}
 use Rattle.accept.proofs.Accepted.{accepted_layout, well_formed}
 use Rattle.intervals.specs.declared.IntervalNumber.{IntervalNumber}
 use Rattle.intervals.proofs.IntervalModel.{interval_few}

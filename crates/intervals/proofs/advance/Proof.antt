@@ -5,8 +5,8 @@ use Prim.Native.Nat.{◌+◌, ◌-◌, ◌<◌, ◌≤◌}
 use native.Mathlib.Omega.{arith}
 use native.Mathlib.Nat.{le_antisymm}
 use borrow.Author.Rules.{rules}
-use Rattle.log.specs.Layout.{workers_of}
-use Rattle.log.proofs.Read.{count_field, next_within, next_event}
+use Rattle.event_log.specs.Layout.{workers_of}
+use Rattle.event_log.proofs.Read.{count_field, next_within, next_event}
 use Rattle.intervals.specs.declared.IntervalNumber.{IntervalNumber}
 use Rattle.intervals.specs.Interval.{index, interval_at}
 use Rattle.intervals.proofs.IntervalModel.{interval_next, interval_few}

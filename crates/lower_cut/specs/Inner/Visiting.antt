@@ -2,7 +2,7 @@
 -- Assumes nothing.
 use Rattle.std.specs.Prelude.{◌≡◌, ◌≢◌, List, ℕ, ◌<◌, ◌≤◌}
 use Rattle.ranges.specs.Fold.{sum_below}
-use Rattle.log.specs.Model.{Workers, worker_count, event_of, IsEvent}
+use Rattle.event_log.specs.Model.{Workers, worker_count, event_of, IsEvent}
 use Rattle.lent.specs.Lent.{at}
 use Rattle.causality.specs.Cut.{component, IsCut}
 

@@ -5,8 +5,8 @@ use borrow.Author.Tests.{ne_eqb}
 use native.Mathlib.Omega.{arith}
 use Rattle.lent.specs.Lent.{unless_refused}
 use Rattle.lent.proofs.Lent.{put, untouched}
-use Rattle.log.specs.Layout.{workers_of, log_of}
-use Rattle.log.proofs.Readable.{readable}
+use Rattle.event_log.specs.Layout.{workers_of, log_of}
+use Rattle.event_log.proofs.Readable.{readable}
 use Rattle.pack.specs.Packed.{fields_of, packed}
 use Rattle.pack.specs.Calls.{pack_answer}
 use Rattle.pack.proofs.Allowed.{pack_ok, lent_packable}

@@ -5,7 +5,7 @@ use Prim.Native.Nat.{◌≤◌, ◌-◌}
 use native.Mathlib.Omega.{arith}
 use native.Mathlib.Nat.{le_antisymm}
 use borrow.Author.Rules.{rules}
-use Rattle.log.specs.Layout.{workers_of}
+use Rattle.event_log.specs.Layout.{workers_of}
 use Rattle.pack.specs.Packed.{start_of, packed_length}
 use Rattle.pack.proofs.Writing.{start_first, start_next, limited, next_fits}
 use Rattle.pack.proofs.packed_length.Statement.{statement}

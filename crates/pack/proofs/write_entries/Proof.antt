@@ -4,7 +4,7 @@ use mathlib.Core.Path.{◌≡◌, sym, ◌∙◌}
 use Prim.Native.Nat.{◌-◌}
 use native.Mathlib.Omega.{arith}
 use borrow.Author.Rules.{rules}
-use Rattle.log.specs.Layout.{header_of, workers_of}
+use Rattle.event_log.specs.Layout.{header_of, workers_of}
 use Rattle.pack.specs.Packed.{start_of, numbers_of, entry_of}
 use Rattle.pack.proofs.Header.{entries_long}
 use Rattle.pack.proofs.Writing.{Written, written_none, written_more, written_end, start_first, start_next, limited, next_fits, header_within, entry_within}

@@ -4,8 +4,8 @@ use mathlib.Core.Path.{◌≡◌, sym, ◌∙◌}
 use Prim.Native.Nat.{◌-◌}
 use native.Mathlib.Omega.{arith}
 use borrow.Author.Rules.{rules}
-use Rattle.log.specs.Model.{worker_count}
-use Rattle.log.specs.Layout.{header_of, workers_of}
+use Rattle.event_log.specs.Model.{worker_count}
+use Rattle.event_log.specs.Layout.{header_of, workers_of}
 use Rattle.pack.specs.Packed.{start_of, sections_of}
 use Rattle.pack.proofs.Header.{sections_before}
 use Rattle.pack.proofs.Writing.{Written, written_none, written_more, written_end, room_same, start_first, header_within}

@@ -2,10 +2,10 @@
 -- Assumes nothing.
 use Rattle.std.specs.Prelude.{◌≡◌, List, ◌≢◌, ℕ, ◌<◌, ◌≤◌}
 use Rattle.records.specs.declared.Kind.TheVariants.{Rest}
-use Rattle.log.specs.Header.{layout_refusal}
-use Rattle.log.specs.Limits.{max_length}
-use Rattle.log.specs.Layout.{workers_of}
-use Rattle.log.specs.Model.{Workers, event_count, event_of}
+use Rattle.event_log.specs.Header.{layout_refusal}
+use Rattle.event_log.specs.Limits.{max_length}
+use Rattle.event_log.specs.Layout.{workers_of}
+use Rattle.event_log.specs.Model.{Workers, event_count, event_of}
 use Rattle.pack.specs.Packed.{packed_length}
 
 -- every event is of one of the three kinds, so that the number of its kind is the byte that was read

@@ -2,7 +2,7 @@
 -- in that word, and the bytes before it are what that call promises. Assumes nothing.
 use mathlib.Core.Path.{sym, ◌∙◌}
 use Rattle.lent.proofs.Lent.{words_ok, untouched}
-use Rattle.log.specs.Layout.{workers_of}
+use Rattle.event_log.specs.Layout.{workers_of}
 use Rattle.intervals.specs.Interval.{interval_workers}
 use Rattle.interval_log.proofs.Allowed.{intervals_ok}
 use Rattle.lent.proofs.Left.{leaves_both_by}

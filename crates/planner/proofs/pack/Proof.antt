@@ -2,7 +2,7 @@
 -- and the file, being archived, is answered as the log is (`archived_alike`). Assumes nothing.
 use mathlib.Core.Path.{sym, ◌∙◌}
 use Rattle.lent.proofs.Lent.{words_ok, untouched}
-use Rattle.log.specs.Layout.{workers_of}
+use Rattle.event_log.specs.Layout.{workers_of}
 use Rattle.pack.proofs.Allowed.{pack_ok}
 use Rattle.lent.proofs.Left.{leaves_both_by}
 use Rattle.planner.proofs.LogWritten.{number_stored, number_first}

@@ -3,7 +3,7 @@
 use mathlib.Core.Path.{◌≡◌}
 use borrow.Author.Tests.{eq-eqb, ne_eqb}
 use native.Mathlib.Omega.{arith}
-use Rattle.log.proofs.Read.{count_field}
+use Rattle.event_log.proofs.Read.{count_field}
 use Rattle.record_tests.specs.Records.{event_fault}
 use borrow.Author.Rules.{rules}
 use Rattle.record_tests.proofs.event_fault.Statement.{statement}

@@ -8,15 +8,15 @@ use borrow.Author.Tests.{not-true}
 use borrow.Fn.Kinds.{In, Out}
 use borrow.Fn.PlainCycle.{Measures, is, falls, and}
 use Rattle.ranges.proofs.Bools.{said_false, said_true}
-use Rattle.log.specs.Layout.{workers_of}
-use Rattle.log.specs.Model.{worker_count}
-use Rattle.log.proofs.Read.{workers_few}
+use Rattle.event_log.specs.Layout.{workers_of}
+use Rattle.event_log.specs.Model.{worker_count}
+use Rattle.event_log.proofs.Read.{workers_few}
 use Rattle.repeats.specs.Inner.Table.{word_bits, many_words, all_events}
 use Rattle.repeats.proofs.Places.{within_none, within_later, within_first, within_unfound, places_few}
 use Rattle.repeats.proofs.repeats_from.Reads as repeats-from
 use Rattle.repeats.proofs.repeats_from.Kinds as repeats-from-kinds
 use Rattle.repeats.proofs.+repeats_from.Lts-repeats_from as repeats-from-lts
-use Rattle.log.proofs.receives_once.Reads as receives-once-reads
+use Rattle.event_log.proofs.receives_once.Reads as receives-once-reads
 use Rattle.repeats.proofs.few_repeat.Reads as few-repeat-reads
 use Rattle.repeats.proofs.many_repeat.Reads as many-repeat-reads
 use Rattle.repeats.proofs.number_events.Reads as number-events-reads

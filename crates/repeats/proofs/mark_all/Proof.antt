@@ -5,7 +5,7 @@ use Prim.Native.Nat.{◌+◌, ◌-◌}
 use native.Mathlib.Omega.{arith}
 use lib.ListN.{length}
 use Rattle.ranges.proofs.Any.{Sought, sought_none, sought_more, sought_found, sought_end}
-use Rattle.log.specs.Layout.{workers_of}
+use Rattle.event_log.specs.Layout.{workers_of}
 use Rattle.repeats.specs.Inner.Table.{table_bits, Marks, worker_again_within, some_again_within}
 use borrow.Author.Rules.{rules}
 use Rattle.repeats.proofs.mark_all.Statement.{statement}

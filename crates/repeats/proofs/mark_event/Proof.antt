@@ -3,7 +3,7 @@
 use mathlib.Core.Path.{◌∙◌, ap}
 use native.Mathlib.Omega.{arith}
 use lib.ListN.{length}
-use Rattle.log.specs.Layout.{workers_of}
+use Rattle.event_log.specs.Layout.{workers_of}
 use Rattle.repeats.specs.Inner.Table.{table_after, found_marked}
 use Rattle.repeats.proofs.Bits.{marked_length}
 use Rattle.repeats.proofs.Marks.{bit_before, bit_past, bit_among}

@@ -7,9 +7,9 @@ use native.Mathlib.Nat.{le_antisymm}
 use native.Mathlib.Omega.{arith}
 use lib.ListN.{length}
 use Rattle.ranges.proofs.Any.{Sought, sought_none, sought_more, sought_found, sought_end}
-use Rattle.log.specs.Layout.{workers_of}
-use Rattle.log.specs.Model.{event_of}
-use Rattle.log.proofs.Read.{next_within, next_event}
+use Rattle.event_log.specs.Layout.{workers_of}
+use Rattle.event_log.specs.Model.{event_of}
+use Rattle.event_log.proofs.Read.{next_within, next_event}
 use Rattle.repeats.specs.Inner.Table.{table_bits, Marks, again_within, worker_again_within}
 use Rattle.repeats.proofs.Places.{received_named}
 use Rattle.repeats.proofs.Marks.{marks_more, found_again, marks_worker}

@@ -9,7 +9,7 @@ use lib.ListN.{length, length-set}
 use lib.Seq.{get_or-set_same, get_or-set_other}
 use Rattle.ranges.proofs.Order.{eq_or_ne}
 use Rattle.lent.specs.Lent.{at}
-use Rattle.log.specs.Layout.{workers_of}
+use Rattle.event_log.specs.Layout.{workers_of}
 use Rattle.repeats.specs.Inner.Table.{first_place}
 use Rattle.repeats.proofs.Places.{first_none, first_more, places_few}
 use borrow.Author.Rules.{rules}

@@ -5,7 +5,7 @@ use mathlib.Core.Bool.{false≢true}
 use Prim.Native.Nat.{◌-◌}
 use native.Mathlib.Omega.{arith}
 use Rattle.ranges.proofs.Any.{Sought, sought_none, sought_more, sought_end}
-use Rattle.log.specs.Layout.{workers_of}
+use Rattle.event_log.specs.Layout.{workers_of}
 use Rattle.repeats.specs.Inner.Again.{worker_again, some_again}
 use borrow.Author.Rules.{rules}
 use Rattle.repeats.proofs.some_falls.Statement.{statement}

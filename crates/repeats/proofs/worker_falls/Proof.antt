@@ -7,11 +7,11 @@ use native.Mathlib.Omega.{arith}
 use lib.ListN.{length, length-set}
 use Rattle.ranges.proofs.Any.{Sought, sought_none, sought_more, sought_end}
 use Rattle.lent.specs.Lent.{at}
-use Rattle.log.specs.Limits.{max_workers}
-use Rattle.log.specs.Layout.{workers_of}
-use Rattle.log.specs.Model.{event_count, event_of}
+use Rattle.event_log.specs.Limits.{max_workers}
+use Rattle.event_log.specs.Layout.{workers_of}
+use Rattle.event_log.specs.Model.{event_count, event_of}
 use Rattle.records.specs.Event.{is_receive}
-use Rattle.log.proofs.Read.{next_within, next_event}
+use Rattle.event_log.proofs.Read.{next_within, next_event}
 use Rattle.repeats.specs.Inner.Again.{again, worker_again}
 use Rattle.repeats.proofs.Again.{Rising, rising_none, rising_next, rising_more, peer_few}
 use borrow.Author.Rules.{rules}

@@ -5,7 +5,7 @@ use Rattle.std.specs.Int.Bits.{bit_or}
 use Rattle.ranges.specs.Fold.{any_below, sum_below}
 use Rattle.lent.specs.Lent.{at}
 use Rattle.records.specs.declared.Event.{Event}
-use Rattle.log.specs.Model.{Workers, worker_count, event_count, event_of}
+use Rattle.event_log.specs.Model.{Workers, worker_count, event_count, event_of}
 use Rattle.records.specs.Event.{is_receive, received}
 use Rattle.repeats.specs.Inner.Again.{again}
 

@@ -5,7 +5,7 @@ use Prim.Native.Nat.{◌<◌, ◌≤◌}
 use native.Mathlib.Omega.{arith}
 use borrow.Author.Tests.{eq-eqb, ne_eqb}
 use lib.ListN.{length, get_or}
-use Rattle.log.specs.Limits.{max_events}
+use Rattle.event_log.specs.Limits.{max_events}
 use Rattle.accept.proofs.Accepted.{well_formed}
 use Rattle.replay_machine.specs.Machine.{moved_by, moved}
 use Rattle.replay_machine.proofs.Steps.{done_ready}

@@ -3,8 +3,8 @@
 use Prim.Native.Nat.{◌<◌}
 use borrow.Author.Tests.{le-leb, lt-leb}
 use native.Mathlib.Omega.{arith}
-use Rattle.log.specs.Layout.{workers_of}
-use Rattle.log.specs.Model.{worker_count}
+use Rattle.event_log.specs.Layout.{workers_of}
+use Rattle.event_log.specs.Model.{worker_count}
 use Rattle.accept.proofs.Accepted.{accepted_layout, well_formed}
 use Rattle.causality.proofs.Peers.{peer_within}
 use Rattle.cost.proofs.Held.{cuts_at, starts_in_at}

@@ -7,7 +7,7 @@ use native.Mathlib.Nat.{le_antisymm}
 use native.Mathlib.Omega.{arith}
 use Rattle.ranges.specs.Fold.{any_below}
 use Rattle.ranges.proofs.Any.{any_none, any_more, any_found}
-use Rattle.log.specs.Layout.{workers_of}
+use Rattle.event_log.specs.Layout.{workers_of}
 use Rattle.accept.proofs.Accepted.{accepted_layout}
 use Rattle.replay_machine.specs.Calls.{disordered}
 use Rattle.replay.proofs.some_disordered.Statement.{statement}

@@ -5,8 +5,8 @@ use Prim.Native.Nat.{◌*◌}
 use lib.ListN.{length}
 use Rattle.lent.specs.Lent.{or_else, words_refusal}
 use Rattle.lent.proofs.Lent.{or_else_zero, or_else_first, or_else_second, words_ok}
-use Rattle.log.specs.Layout.{workers_of}
-use Rattle.log.specs.Model.{worker_count}
+use Rattle.event_log.specs.Layout.{workers_of}
+use Rattle.event_log.specs.Model.{worker_count}
 use Rattle.accept.proofs.Accepted.{accepted_layout}
 use Rattle.replay_machine.specs.Calls.{order_refusal, state_refusal}
 use borrow.Author.Rules.{rules}

@@ -2,7 +2,7 @@
 -- Assumes nothing.
 use Rattle.std.specs.Prelude.{List, ℕ, ◌*◌, ◌<◌, ◌≤◌, length}
 use Rattle.lent.specs.Lent.{at}
-use Rattle.log.specs.Model.{Workers, worker_count, event_count}
+use Rattle.event_log.specs.Model.{Workers, worker_count, event_count}
 use Rattle.cost.specs.Words.{cut_in, start_in}
 
 -- what a step of any worker is given when none of 14 and 16 applies

@@ -4,7 +4,7 @@ use Prim.Native.Nat.{◌-◌, ◌≤◌}
 use native.Mathlib.Nat.{le_antisymm}
 use native.Mathlib.Omega.{arith}
 use lib.ListN.{length, length-replicate}
-use Rattle.log.specs.Layout.{workers_of}
+use Rattle.event_log.specs.Layout.{workers_of}
 use Rattle.unit_table.specs.Table.{table_of}
 use Rattle.sheet.specs.Sheet.{sheet_up_to, sheet_words}
 use Rattle.sheet.proofs.Sums.{sheet_long, sheet_none}

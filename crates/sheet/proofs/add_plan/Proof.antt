@@ -8,7 +8,7 @@ use native.Mathlib.Omega.{arith}
 use lib.ListN.{length, get_or, drop, length-set}
 use Rattle.ranges.specs.Fold.{tabulate}
 use Rattle.ranges.proofs.Tabulate.{store_none, store_more, store_next, full_table}
-use Rattle.log.specs.Layout.{workers_of}
+use Rattle.event_log.specs.Layout.{workers_of}
 use Rattle.unit_table.specs.Table.{table_of}
 use Rattle.sheet.specs.Inner.Adding.{added_at}
 use borrow.Author.Rules.{rules}

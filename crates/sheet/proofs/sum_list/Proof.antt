@@ -5,8 +5,8 @@ use native.Mathlib.Omega.{arith}
 use lib.ListN.{length, replicate, length-replicate}
 use lib.Seq.{length-take-le, take_at}
 use Rattle.lent.proofs.Lent.{written_over}
-use Rattle.log.specs.Layout.{workers_of}
-use Rattle.log.specs.Model.{worker_count}
+use Rattle.event_log.specs.Layout.{workers_of}
+use Rattle.event_log.specs.Model.{worker_count}
 use Rattle.accept.proofs.Accepted.{accepted_layout}
 use Rattle.unit_table.specs.Table.{table_of}
 use Rattle.sheet.specs.Sheet.{sheet_words}

@@ -2,8 +2,8 @@
 -- Assumes nothing.
 use Rattle.std.specs.Prelude.{◌≡◌, List, ℕ, ◌+◌}
 use Rattle.lent.specs.Lent.{at}
-use Rattle.log.specs.Layout.{workers_of}
-use Rattle.log.specs.Model.{Workers}
+use Rattle.event_log.specs.Layout.{workers_of}
+use Rattle.event_log.specs.Model.{Workers}
 use Rattle.accept.specs.Refusal.{log_refusal}
 use Rattle.unit_table.specs.Table.{Table, table_refusal}
 use Rattle.cost.specs.Words.{cuts_in, starts_in}

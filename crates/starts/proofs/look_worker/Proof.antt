@@ -2,7 +2,7 @@
 -- did, since the sender of a receive is another worker; at the end none after that start is left. Assumes nothing.
 use mathlib.Core.Path.{sym, ◌∙◌}
 use native.Mathlib.Omega.{arith}
-use Rattle.log.specs.Layout.{workers_of}
+use Rattle.event_log.specs.Layout.{workers_of}
 use Rattle.accept.proofs.Accepted.{well_formed}
 use borrow.Author.Rules.{rules}
 use Rattle.cost.specs.Words.{cuts_in}

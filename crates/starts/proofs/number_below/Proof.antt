@@ -2,7 +2,7 @@
 -- may not be chosen or has no index below `bound`; at c = 0 it is 0 (`number_zero`). Assumes nothing.
 use mathlib.Core.Path.{◌≡◌, refl, sym, ◌∙◌}
 use native.Mathlib.Omega.{arith}
-use Rattle.log.specs.Layout.{workers_of}
+use Rattle.event_log.specs.Layout.{workers_of}
 use Rattle.starts.specs.Inner.Rollback.{number_below}
 use Rattle.starts.proofs.Placed.{number_zero, number_here, number_down}
 use borrow.Author.Rules.{rules}

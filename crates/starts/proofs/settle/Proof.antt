@@ -3,8 +3,8 @@
 use mathlib.Core.Path.{◌≡◌, sym, ◌∙◌}
 use Prim.Native.Nat.{◌<◌}
 use Rattle.ranges.specs.Fold.{first_below, sum_below}
-use Rattle.log.specs.Layout.{workers_of}
-use Rattle.log.specs.Model.{worker_count}
+use Rattle.event_log.specs.Layout.{workers_of}
+use Rattle.event_log.specs.Model.{worker_count}
 use Rattle.accept.proofs.Accepted.{accepted_layout, well_formed}
 use Rattle.lent.specs.Lent.{at}
 use Rattle.starts.specs.Inner.Rollback.{pending, RollingBack}

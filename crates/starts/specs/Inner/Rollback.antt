@@ -5,7 +5,7 @@ use Rattle.std.specs.Prelude.{◌≡◌, Bool, true, cond, ◌&&◌, List, ℕ, 
 use Rattle.ranges.specs.Fold.{last_below, tabulate}
 use Rattle.records.specs.declared.Event.{Event}
 use Rattle.records.specs.declared.Checkpoint.{Checkpoint}
-use Rattle.log.specs.Model.{Workers, worker_count, event_of, checkpoint_of}
+use Rattle.event_log.specs.Model.{Workers, worker_count, event_of, checkpoint_of}
 use Rattle.records.specs.Event.{is_unlogged}
 use Rattle.lent.specs.Lent.{at}
 use Rattle.choice.specs.Choice.{may_choose, IsChoice, starts_of, Startable, loses_send}

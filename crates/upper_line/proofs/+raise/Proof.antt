@@ -7,8 +7,8 @@ use native.Mathlib.Omega.{arith}
 use borrow.Author.Rules.{rules}
 use borrow.Fn.Kinds.{In, Out}
 use borrow.Fn.PlainCycle.{Measures, is, falls, and}
-use Rattle.log.specs.Layout.{workers_of}
-use Rattle.log.specs.Model.{event_of}
+use Rattle.event_log.specs.Layout.{workers_of}
+use Rattle.event_log.specs.Model.{event_of}
 use Rattle.accept.proofs.Accepted.{accepted_layout, well_formed}
 use Rattle.upper_line.proofs.Raising.{Moving, left, moving_room, moving_long, moving_ends, moved, stepped_on, stepped_less}
 use Rattle.upper_line.proofs.Raising.{awaited_send, awaited_own, awaited_less, awaited_stuck}
@@ -16,7 +16,7 @@ use Rattle.upper_line.proofs.raise.Reads as raise
 use Rattle.upper_line.proofs.raise.Kinds as raise-kinds
 use Rattle.upper_line.proofs.+raise.Lts-raise as raise-lts
 use Rattle.upper_line.proofs.is_blocked.Reads as is-blocked-reads
-use Rattle.log.proofs.event_at.Reads as event-at-reads
+use Rattle.event_log.proofs.event_at.Reads as event-at-reads
 use Rattle.upper_line.proofs.+raise.{statement}
 use Rattle.upper_line.proofs.+raise.Tie.{close}
 

@@ -2,7 +2,7 @@
 -- names 0, which is neither, so its kind need not be asked for (`blocked_any`). Assumes nothing.
 use native.Mathlib.Omega.{arith}
 use borrow.Author.Tests.{lt-ltb, le-ltb, eq-eqb, ne_eqb}
-use Rattle.log.proofs.Read.{count_field}
+use Rattle.event_log.proofs.Read.{count_field}
 use Rattle.accept.proofs.Accepted.{accepted_layout}
 use Rattle.causality.proofs.Peers.{peer_within}
 use Rattle.upper_line.proofs.Blocked.{blocked_any}

@@ -4,7 +4,7 @@ use mathlib.Core.Path.{sym, ◌∙◌}
 use Prim.Native.Nat.{◌-◌}
 use native.Mathlib.Omega.{arith}
 use borrow.Author.Rules.{rules}
-use Rattle.log.specs.Layout.{workers_of}
+use Rattle.event_log.specs.Layout.{workers_of}
 use Rattle.accept.proofs.Accepted.{accepted_layout, well_formed}
 use Rattle.upper_line.proofs.Raising.{Lined, passed_first, lined_first, lined_more, lined_upper}
 use Rattle.upper_line.proofs.upper_into.Statement.{statement}

@@ -1,7 +1,7 @@
 -- What the contracts of the functions behind the upper line cite: a line that they raise, worker by worker, as far as it can go.
 -- Assumes nothing.
 use Rattle.std.specs.Prelude.{◌≡◌, ◌⊎◌, ◌≢◌, Bool, false, ◌&&◌, ◌||◌, List, ℕ, ◌+◌, ◌<◌, ◌≤◌, eqb, ltb}
-use Rattle.log.specs.Model.{Workers, event_of}
+use Rattle.event_log.specs.Model.{Workers, event_of}
 use Rattle.records.specs.Event.{is_receive}
 use Rattle.causality.specs.Happened.{HappenedBefore}
 use Rattle.lent.specs.Lent.{at}

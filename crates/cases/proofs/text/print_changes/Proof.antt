@@ -2,7 +2,7 @@
 -- it ends, since each turn leaves one word fewer. Assumes nothing.
 use Prim.Native.Nat.{◌+◌, ◌*◌, ◌-◌, ◌≤◌}
 use native.Mathlib.Omega.{arith}
-use Rattle.log.specs.Limits.{max_workers}
+use Rattle.event_log.specs.Limits.{max_workers}
 use Rattle.cases.proofs.text.print_changes.Statement.{statement}
 use Rattle.cases.proofs.text.print_changes.Tie as tie
 

@@ -9,8 +9,8 @@ use lib.Seq.{length-take-le}
 use borrow.Author.Rules.{rules}
 use borrow.Fn.Kinds.{In, Out}
 use borrow.Fn.PlainCycle.{Measures, is, falls as below, and}
-use Rattle.log.specs.Layout.{workers_of}
-use Rattle.log.specs.Model.{event_of}
+use Rattle.event_log.specs.Layout.{workers_of}
+use Rattle.event_log.specs.Model.{event_of}
 use Rattle.accept.proofs.Accepted.{accepted_layout, well_formed}
 use Rattle.lower_cut.specs.Figure2.{Found}
 use Rattle.lower_cut.proofs.VisitCount.{words_few, visit_at_counts}
@@ -20,7 +20,7 @@ use Rattle.lower_cut.proofs.figure2.visit.Reads as visit
 use Rattle.lower_cut.proofs.figure2.visit.Kinds as visit-kinds
 use Rattle.lower_cut.proofs.figure2.+visit.Lts-visit as visit-lts
 use Rattle.causality.proofs.first_lacking.Reads as first-lacking-reads
-use Rattle.log.proofs.worker_count.Reads as worker-count-reads
+use Rattle.event_log.proofs.worker_count.Reads as worker-count-reads
 use Rattle.lower_cut.proofs.figure2.next_turns.Reads as next-turns-reads
 use Rattle.lower_cut.proofs.figure2.refill.Reads as refill-reads
 use Rattle.lower_cut.proofs.figure2.rows_below.Reads as rows-below-reads

@@ -5,7 +5,7 @@ use Prim.Native.Nat.{◌+◌, ◌-◌, ◌*◌}
 use native.Mathlib.Omega.{arith}
 use borrow.Author.Rules.{scaled_Fits, rules}
 use lib.ListN.{length, length-take, length-drop}
-use Rattle.log.specs.Layout.{workers_of}
+use Rattle.event_log.specs.Layout.{workers_of}
 use Rattle.lent.proofs.Left.{answer_of_lem, slice_of}
 use Rattle.accept.proofs.Accepted.{well_formed}
 use Rattle.replay_machine.specs.Machine.{step_words}

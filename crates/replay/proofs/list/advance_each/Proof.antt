@@ -5,7 +5,7 @@ use Prim.Native.Nat.{◌-◌, ◌*◌}
 use native.Mathlib.Omega.{arith}
 use borrow.Author.Rules.{scaled_Fits, rules}
 use lib.ListN.{length}
-use Rattle.log.specs.Layout.{workers_of}
+use Rattle.event_log.specs.Layout.{workers_of}
 use Rattle.replay_machine.specs.Machine.{answer_word}
 use Rattle.replay.proofs.Storing.{Storing, storing_begin, answer_stored, storing_end}
 use Rattle.replay.proofs.list.advance_each.Statement.{statement}
