@@ -8,10 +8,10 @@ use Rattle.std.proofs.Common.{rules}
 use Rattle.event_log.proofs.checkpoint_at.Goals as goal
 
 pub returns-then-c-eq0 : goal.returns-then-c-eq0
-returns-then-c-eq0 c = record { answer = c.initial.ensures.answer ∙ sym (rw c.if-c-eq0.true (checkpoint_initial _ _)); }
+returns-then-c-eq0 c = record { answer = c.initial.ensures.answer ∙ sym (rw c.if-c-eq0.true (checkpoint_initial _ _)) }
 
 pub returns-then-count-c : goal.returns-then-count-c
-returns-then-count-c c = record { answer = c.initial-then-count-c.ensures.answer ∙ sym (checkpoint_past _ _ _ (rw c.checkpoint_count-count.ensures.answer at c.if-count-c.true)); }
+returns-then-count-c c = record { answer = c.initial-then-count-c.ensures.answer ∙ sym (checkpoint_past _ _ _ (rw c.checkpoint_count-count.ensures.answer at c.if-count-c.true)) }
 
 pub entry-start-requires : goal.entry-start-requires
 entry-start-requires c = (search rules, checkpoint_entry _ c.requires _ _ _ c.if-c-eq0.false c.checkpoint_count-count.ensures.answer c.if-count-c.false)
@@ -24,4 +24,4 @@ checkpoint_in-requires c = let some = c.if-c-eq0.false in
 
 pub returns : goal.returns
 returns c = let some = c.if-c-eq0.false in
-    let size = c.checkpoint_count-count.ensures.answer in record { answer = c.checkpoint_in.ensures.answer ∙ rw c.entry-start.ensures.answer (checkpoint_at_lem _ c.requires _ _ _ some size c.if-count-c.false); }
+    let size = c.checkpoint_count-count.ensures.answer in record { answer = c.checkpoint_in.ensures.answer ∙ rw c.entry-start.ensures.answer (checkpoint_at_lem _ c.requires _ _ _ some size c.if-count-c.false) }

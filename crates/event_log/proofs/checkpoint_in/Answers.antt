@@ -8,4 +8,4 @@ pub checkpoint_record-requires : goal.checkpoint_record-requires
 checkpoint_record-requires c = rw (c.section_part.ensures.answer, section_length _ _ _ c.requires.1) (omega arith)
 
 pub returns : goal.returns
-returns c = record { answer = rw (c.form_field_lem.ensures, c.section_part.ensures.answer) at c.checkpoint_record.ensures.answer; }
+returns c = record { answer = rw (c.form_field.ensures.answer, c.section_part.ensures.answer) at c.checkpoint_record.ensures.answer }

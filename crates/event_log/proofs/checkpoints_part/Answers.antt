@@ -10,4 +10,4 @@ records_part-requires c = (omega arith, entry_within _ c.requires.0 _ c.requires
 
 pub returns : goal.returns
 unfolding checkpoint_section
-returns c = record { answer = c.records_part.ensures.answer; }
+returns c = record { answer = c.records_part.ensures.answer }

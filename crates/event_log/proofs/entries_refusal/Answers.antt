@@ -5,12 +5,12 @@ use Rattle.event_log.proofs.entries_refusal.Goals as goal
 
 pub returns-then-some_entry : goal.returns-then-some_entry
 unfolding entries_refusal
-returns-then-some_entry c = record { answer = rw (← c.some_entry.ensures.answer, c.if-some_entry.true); }
+returns-then-some_entry c = record { answer = rw (← c.some_entry.ensures.answer, c.if-some_entry.true) }
 
 pub returns-then-some_entry-2 : goal.returns-then-some_entry-2
 unfolding entries_refusal
-returns-then-some_entry-2 c = record { answer = rw (← c.some_entry.ensures.answer, c.if-some_entry.false, ← c.some_entry-2.ensures.answer, c.if-some_entry-2.true); }
+returns-then-some_entry-2 c = record { answer = rw (← c.some_entry.ensures.answer, c.if-some_entry.false, ← c.some_entry-2.ensures.answer, c.if-some_entry-2.true) }
 
 pub returns : goal.returns
 unfolding entries_refusal
-returns c = record { answer = rw (← c.some_entry.ensures.answer, c.if-some_entry.false, ← c.some_entry-2.ensures.answer, c.if-some_entry-2.false); }
+returns c = record { answer = rw (← c.some_entry.ensures.answer, c.if-some_entry.false, ← c.some_entry-2.ensures.answer, c.if-some_entry-2.false) }

@@ -5,4 +5,4 @@ use Rattle.event_log.proofs.entry.Goals as goal
 
 pub returns : goal.returns
 unfolding field
-returns c = record { answer = c.read4.ensures; }
+returns c = record { answer = c.read4.ensures.answer }

@@ -6,8 +6,8 @@ use Rattle.event_log.proofs.entry_fault.Goals as goal
 
 pub returns-then-test-eq5 : goal.returns-then-test-eq5
 unfolding entry_fault
-returns-then-test-eq5 c = record { answer = rw (eq-eqb _ _ c.if-test-eq5.true) c.limit_fault.ensures.answer; }
+returns-then-test-eq5 c = record { answer = rw (eq-eqb _ _ c.if-test-eq5.true) c.limit_fault.ensures.answer }
 
 pub returns-else-test-eq5 : goal.returns-else-test-eq5
 unfolding entry_fault
-returns-else-test-eq5 c = record { answer = rw (ne_eqb _ _ c.if-test-eq5.false) c.section_fault.ensures.answer; }
+returns-else-test-eq5 c = record { answer = rw (ne_eqb _ _ c.if-test-eq5.false) c.section_fault.ensures.answer }

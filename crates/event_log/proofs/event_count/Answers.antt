@@ -6,4 +6,4 @@ use Rattle.event_log.proofs.Read.{count_field}
 use Rattle.event_log.proofs.event_count.Goals as goal
 
 pub returns : goal.returns
-returns c = let law = count_field _ c.requires c.args.w in record { answer = c.entry_or_zero.ensures.answer ∙ sym law.0; few = omega (arith, c.entry_or_zero.ensures.answer); }
+returns c = let law = count_field _ c.requires c.args.w in record { answer = c.entry_or_zero.ensures.answer ∙ sym law.0; few = omega (arith, c.entry_or_zero.ensures.answer) }

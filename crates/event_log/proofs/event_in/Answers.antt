@@ -7,4 +7,4 @@ pub event_record-requires : goal.event_record-requires
 event_record-requires c = rw (c.section_part.ensures.answer, section_length _ _ _ c.requires.0) (omega arith)
 
 pub returns : goal.returns
-returns c = record { answer = rw c.section_part.ensures.answer at c.event_record.ensures.answer; }
+returns c = record { answer = rw c.section_part.ensures.answer at c.event_record.ensures.answer }

@@ -5,4 +5,4 @@ use Rattle.event_log.proofs.event_start.Goals as goal
 
 pub returns : goal.returns
 unfolding event_start
-returns c = record { answer = c.entry_or_zero.ensures.answer; }
+returns c = record { answer = c.entry_or_zero.ensures.answer }

@@ -4,4 +4,4 @@ use Rattle.event_log.proofs.form_fault.Goals as goal
 
 pub returns : goal.returns
 unfolding form_fault
-returns c = record { answer = rw (c.is_form.ensures.answer, c.form_field_lem.ensures); }
+returns c = record { answer = rw (c.is_form.ensures.answer, c.form_field.ensures.answer) }

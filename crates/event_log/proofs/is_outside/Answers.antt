@@ -6,8 +6,8 @@ use Rattle.event_log.proofs.is_outside.Goals as goal
 
 pub returns-then-start-header_of : goal.returns-then-start-header_of
 unfolding outside
-returns-then-start-header_of c = record { answer = rw (lt-ltb _ _ (rw (c.header_of.ensures.answer, c.size_field_lem.ensures) at c.if-start-header_of.true)); }
+returns-then-start-header_of c = record { answer = rw (lt-ltb _ _ (rw (c.header_of.ensures.answer, c.size_field.ensures.answer) at c.if-start-header_of.true)) }
 
 pub returns : goal.returns
 unfolding outside
-returns c = record { answer = rw (le-ltb _ _ (rw (c.header_of.ensures.answer, c.size_field_lem.ensures) at c.if-start-header_of.false)); }
+returns c = record { answer = rw (le-ltb _ _ (rw (c.header_of.ensures.answer, c.size_field.ensures.answer) at c.if-start-header_of.false)) }

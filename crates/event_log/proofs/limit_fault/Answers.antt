@@ -6,12 +6,12 @@ use Rattle.event_log.proofs.limit_fault.Goals as goal
 
 pub returns-then-entry-gt-MAX_EVENTS : goal.returns-then-entry-gt-MAX_EVENTS
 unfolding limit_fault
-returns-then-entry-gt-MAX_EVENTS c = record { answer = rw (← c.entry.ensures.answer, lt-ltb _ _ c.if-entry-gt-MAX_EVENTS.true); }
+returns-then-entry-gt-MAX_EVENTS c = record { answer = rw (← c.entry.ensures.answer, lt-ltb _ _ c.if-entry-gt-MAX_EVENTS.true) }
 
 pub returns-then-entry-gt-MAX_CHECKPOINTS : goal.returns-then-entry-gt-MAX_CHECKPOINTS
 unfolding limit_fault
-returns-then-entry-gt-MAX_CHECKPOINTS c = record { answer = rw (← c.entry.ensures.answer, ← c.entry-2.ensures.answer, le-ltb _ _ c.if-entry-gt-MAX_EVENTS.false, lt-ltb _ _ c.if-entry-gt-MAX_CHECKPOINTS.true); }
+returns-then-entry-gt-MAX_CHECKPOINTS c = record { answer = rw (← c.entry.ensures.answer, ← c.entry-2.ensures.answer, le-ltb _ _ c.if-entry-gt-MAX_EVENTS.false, lt-ltb _ _ c.if-entry-gt-MAX_CHECKPOINTS.true) }
 
 pub returns : goal.returns
 unfolding limit_fault
-returns c = record { answer = rw (← c.entry.ensures.answer, ← c.entry-2.ensures.answer, ← c.entry-3.ensures.answer, le-ltb _ _ c.if-entry-gt-MAX_EVENTS.false, le-ltb _ _ c.if-entry-gt-MAX_CHECKPOINTS.false); }
+returns c = record { answer = rw (← c.entry.ensures.answer, ← c.entry-2.ensures.answer, ← c.entry-3.ensures.answer, le-ltb _ _ c.if-entry-gt-MAX_EVENTS.false, le-ltb _ _ c.if-entry-gt-MAX_CHECKPOINTS.false) }

@@ -6,4 +6,4 @@ use Rattle.event_log.proofs.part_at.Goals as goal
 
 pub returns : goal.returns
 unfolding section
-returns c = record { answer = simp add-sub_cancel_left; }
+returns c = record { answer = simp add-sub_cancel_left }

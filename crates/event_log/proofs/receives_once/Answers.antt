@@ -4,7 +4,7 @@ use Rattle.event_log.proofs.Readable.{readable}
 use Rattle.event_log.proofs.receives_once.Goals as goal
 
 pub returns : goal.returns
-returns c = record { answer = rw (c.receives_once.ensures.answer, c.form_field_lem.ensures); }
+returns c = record { answer = rw (c.receives_once.ensures.answer, c.form_field.ensures.answer) }
 
 pub form_field-requires : goal.form_field-requires
 form_field-requires c = (readable _ c.requires).long

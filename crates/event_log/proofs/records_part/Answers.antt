@@ -17,4 +17,4 @@ pub section_part-requires : goal.section_part-requires
 section_part-requires c = rw (c.entry-start.ensures.answer, c.entry-count.ensures.answer) c.requires.2
 
 pub returns : goal.returns
-returns c = record { answer = c.section_part.ensures.answer ∙ rw (c.entry-start.ensures.answer, c.entry-count.ensures.answer); }
+returns c = record { answer = c.section_part.ensures.answer ∙ rw (c.entry-start.ensures.answer, c.entry-count.ensures.answer) }

@@ -6,4 +6,4 @@ use Rattle.event_log.proofs.Read.{role_field_lem}
 use Rattle.event_log.proofs.role_of.Goals as goal
 
 pub returns : goal.returns
-returns c = let law = role_field_lem _ c.requires c.args.w in record { answer = c.entry_or_zero.ensures.answer ∙ sym law.0; small = omega (arith, c.entry_or_zero.ensures.answer); }
+returns c = let law = role_field_lem _ c.requires c.args.w in record { answer = c.entry_or_zero.ensures.answer ∙ sym law.0; small = omega (arith, c.entry_or_zero.ensures.answer) }

@@ -9,4 +9,4 @@ pub size_field-requires : goal.size_field-requires
 size_field-requires c = (readable _ c.requires).long
 
 pub returns : goal.returns
-returns c = record { answer = c.size_field_lem.ensures ∙ sym (size_read _); few = rw (c.size_field_lem.ensures, ← size_read _) (workers_few _ c.requires); }
+returns c = record { answer = c.size_field.ensures.answer ∙ sym (size_read _); few = rw (c.size_field.ensures.answer, ← size_read _) (workers_few _ c.requires) }
