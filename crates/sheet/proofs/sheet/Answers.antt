@@ -1,0 +1,27 @@
+-- `sheet::sheet` meets its contract: the number is `sheet_refusal`'s; where it is 0 (`sheet_ok`) the first 3 × n words are the sums, of which
+-- all that the request says holds (`summed_left`), else no word changes. Assumes nothing.
+use mathlib.Core.Path.{refl, sym, ◌∙◌}
+use native.Mathlib.Omega.{arith}
+use Rattle.lent.proofs.Lent.{put, untouched}
+use Rattle.lent.proofs.Left.{leaves_by}
+use Rattle.accept.proofs.Accepted.{well_formed}
+use Rattle.sheet.proofs.Allowed.{sheet_ok}
+use Rattle.sheet.proofs.Summed.{summed_left}
+use Rattle.sheet.proofs.sheet.Goals as goal
+
+pub returns-then-refusal-ne0 : goal.returns-then-refusal-ne0
+returns-then-refusal-ne0 c =
+    let no = c.if-refusal-ne0.true in record { left = leaves_by _ _ c.sheet_refusal-refusal.ensures.answer (untouched _ _ _ no); kept = (λ _. refl); summed = λ none. absurd (no none) }
+
+pub sum_list-requires : goal.sum_list-requires
+sum_list-requires c =
+    let lent = sheet_ok c.sheet_refusal-refusal.ensures.answer c.if-refusal-ne0.false in
+    let few = (well_formed _ lent.summable.accepted).few in
+    (lent.summable, omega (arith, few), omega (arith, lent.room), lent.enough)
+
+pub returns : goal.returns
+returns c =
+    let none = c.if-refusal-ne0.false in
+    let found = c.sheet_refusal-refusal.ensures.answer in
+    let lent = sheet_ok found none in
+    let left = c.sum_list.ensures.sheet in record { left = leaves_by _ _ (sym none ∙ found) (left ∙ put 0 _ _ refl); kept = (λ no. absurd (no refl)); summed = λ _. summed_left _ _ _ lent.summable _ _ left }
