@@ -1,4 +1,5 @@
 // Little-endian numbers in a slice of bytes.
+#![tactic(auto)]
 
 ghost use Rattle.std.specs.Prelude.{◌≡◌, ◌+◌, ◌<◌, ◌≤◌, get_or, length};
 ghost use Rattle.lent.specs.Inner.Overwrite.{overwrite};

@@ -1,4 +1,5 @@
 // A house log in bytes: its header and its sections, and the readers that the other crates use.
+#![tactic(auto)]
 
 ghost use Rattle.std.specs.Prelude.{◌≡◌, ◌+◌, ◌*◌, ◌<◌, ◌≤◌, length};
 ghost use Rattle.records.specs.Forms.{receives_once};

@@ -1,4 +1,5 @@
 // Words and bytes that a caller lends: how many there are, and what is put into them.
+#![tactic(auto)]
 
 ghost use Rattle.std.specs.Prelude.{◌≡◌, ◌+◌, ◌≤◌, length, replicate};
 ghost use Rattle.lent.specs.Lent.{or_else, words_refusal, short_scratch};

@@ -1,4 +1,5 @@
 // Folds over a range of numbers: the definitions are in specs/, their laws in proofs/.
+#![tactic(auto)]
 
 ghost use Rattle.std.specs.Prelude.{◌≡◌, max};
 

@@ -1,5 +1,6 @@
 // The records of a log: the form that says how they are read, the kinds of an event, the mark of a withdrawn checkpoint, and the readers of
 // one record.
+#![tactic(auto)]
 
 ghost use Rattle.std.specs.Prelude.{◌≡◌, ◌+◌, ◌*◌, ◌≤◌, length, get_or};
 ghost use Rattle.records.specs.Forms.{is_form, marks_withdrawn, receives_once};

@@ -1,5 +1,6 @@
 // Test 24: whether a log of form 2 has two receives of one send. Where the receives of each worker name rising sends of each peer, one pass says that there are
 // none; else the receives are gone through with a table of bits, one for each event that may be a send.
+#![tactic(auto)]
 
 ghost use Rattle.std.specs.Prelude.{◌≡◌, false, ◌&&◌, ◌+◌, ◌*◌, ◌<◌, ◌≤◌, eqb, length};
 ghost use Rattle.records.specs.Forms.{receives_once};

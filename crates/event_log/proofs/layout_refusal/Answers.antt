@@ -9,7 +9,7 @@ use lib.ListN.{length}
 use borrow.Author.Tests.{lt-ltb, le-ltb, eq-eqb, ne_eqb}
 use Rattle.event_log.specs.Limits.{min_length, max_length, max_workers}
 use Rattle.event_log.specs.Layout.{size_field}
-use Rattle.event_log.specs.Header.{layout_refusal, length_fault, form_fault, size_fault, header_fault}
+use Rattle.event_log.specs.Header.{layout_refusal, length_fault, size_fault, header_fault}
 use Rattle.event_log.proofs.layout_refusal.Goals as goal
 
 pub returns-then-log-lt-MIN_LENGTH : goal.returns-then-log-lt-MIN_LENGTH

@@ -1,9 +1,8 @@
 -- `event_log::some_entry` meets its contract: after w turns none of the first w entries has the fault; the turn that finds one returns yes, the
 -- end of the loop no. Assumes nothing.
-use Prim.Native.Nat.{◌-◌}
 use native.Mathlib.Omega.{arith}
 use Rattle.ranges.proofs.Any.{sought_none, sought_more, sought_found, sought_end}
-use Rattle.event_log.specs.Header.{entry_fault, some_entry}
+use Rattle.event_log.specs.Header.{some_entry}
 use Rattle.event_log.proofs.some_entry.Goals as goal
 
 pub loop-w-init : goal.loop-w-init

@@ -1,5 +1,4 @@
 -- `lent::clear_wide` meets its contract: each turn sets one word more to 0 (`cleared_more`), until there is none left. Assumes nothing.
-use Prim.Native.Nat.{◌-◌}
 use native.Mathlib.Omega.{arith}
 use Rattle.lent.proofs.Clearing.{cleared_none, cleared_more, cleared_all}
 use Rattle.lent.proofs.clear_wide.Goals as goal

@@ -1,7 +1,6 @@
 -- `lent::copy` meets its contract: after w turns the first w words are those of `from` and the others as lent, and `from` has as many words
 -- as `to`. Assumes nothing.
 use mathlib.Core.Path.{refl, sym, ◌∙◌}
-use Prim.Native.Nat.{◌-◌}
 use native.Mathlib.Omega.{arith}
 use lib.ListN.{length-set}
 use Rattle.ranges.specs.Fold.{tabulate}

@@ -1,7 +1,6 @@
 -- `lent::copy_bytes` meets its contract: after k turns the first k bytes of `from` stand from place `at` on, and every other byte is as
 -- lent. Assumes nothing.
 use mathlib.Core.Path.{refl, sym, ◌∙◌}
-use Prim.Native.Nat.{◌-◌}
 use native.Mathlib.Omega.{arith}
 use lib.ListN.{length-set}
 use lib.Seq.{take_all}

@@ -1,7 +1,7 @@
 -- `repeats::mark_all` meets its contract: after w turns no event of the first w workers receives again a send with a bit in the table, and
 -- bit i says whether one of these events receives the event with number low + i. Assumes nothing.
 use mathlib.Core.Path.{◌≡◌, refl, ◌∙◌}
-use Prim.Native.Nat.{◌+◌, ◌-◌}
+use Prim.Native.Nat.{◌+◌}
 use native.Mathlib.Omega.{arith}
 use Rattle.ranges.proofs.Any.{sought_none, sought_more, sought_found, sought_end}
 use Rattle.event_log.specs.Layout.{workers_of}

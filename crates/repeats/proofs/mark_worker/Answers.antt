@@ -2,7 +2,7 @@
 -- and bit i says whether one of them, or of a worker before w, receives event number low + i. Assumes nothing.
 use mathlib.Core.Path.{◌≡◌, refl, sym, ◌∙◌}
 use mathlib.Core.Bool.{false≢true}
-use Prim.Native.Nat.{◌+◌, ◌-◌}
+use Prim.Native.Nat.{◌+◌}
 use native.Mathlib.Nat.{le_antisymm}
 use native.Mathlib.Omega.{arith}
 use Rattle.ranges.proofs.Any.{sought_none, sought_more, sought_found, sought_end}

@@ -4,13 +4,11 @@ use Prim.Native.Nat.{◌<◌}
 use lib.ListN.{length}
 use mathlib.Core.Path.{◌≡◌, refl, sym, ◌∙◌}
 use mathlib.Core.Logic.{⊎_elim, ◌≢◌}
-use Prim.Native.Nat.{◌-◌}
 use native.Mathlib.Nat.{le_antisymm}
 use native.Mathlib.Omega.{arith}
 use lib.ListN.{length-set}
 use lib.Seq.{get_or-set_same, get_or-set_other}
 use Rattle.ranges.proofs.Order.{eq_or_ne}
-use Rattle.lent.specs.Lent.{at}
 use Rattle.repeats.proofs.Places.{first_none, first_more, places_few}
 use Rattle.repeats.proofs.number_events.Goals as goal
 

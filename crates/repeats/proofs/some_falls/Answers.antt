@@ -2,7 +2,6 @@
 -- of each of them. Assumes nothing.
 use mathlib.Core.Path.{refl, sym}
 use mathlib.Core.Bool.{false≢true}
-use Prim.Native.Nat.{◌-◌}
 use Rattle.ranges.proofs.Any.{sought_none, sought_more, sought_end}
 use Rattle.repeats.specs.Inner.Again.{some_again}
 use Rattle.repeats.proofs.some_falls.Goals as goal
