@@ -12,7 +12,7 @@ ghost use Rattle.causality.specs.Calls.{yes_unless, vector_call, TellsConsistent
 ghost use Rattle.causality.specs.Inner.Row.{noted, named_row};
 
 // What a test returns.
-#[derive(Drop)]
+#[derive(Clone, Copy)]
 pub struct Test {
     pub refusal: u32,
     pub yes: bool,

@@ -189,7 +189,7 @@ pub fn layout_refusal(log: &[u8]) -> u32
 }
 
 // A section of the log: the log, where the section starts, and how many records it has. It copies nothing.
-#[derive(Drop)]
+#[derive(Clone, Copy)]
 pub struct Section<'a> {
     pub log: &'a [u8],
     pub start: usize,

@@ -82,7 +82,7 @@ fn block_end(first: u32, count: u32) -> u32
 }
 
 // Whether an event of a block fails a test of its own; else how many of its events name another.
-#[derive(Drop)]
+#[derive(Clone, Copy)]
 struct Listed {
     fault: bool,
     count: usize,

@@ -7,10 +7,10 @@ ghost use Rattle.event_log.specs.Layout.{workers_of};
 ghost use Rattle.intervals.specs.Interval.{interval_at};
 
 // The index of an event of a worker, and the number of an interval of a worker: the one never stands for the other.
-#[derive(Drop)]
+#[derive(Clone, Copy)]
 pub struct EventIndex(pub u32);
 
-#[derive(Drop)]
+#[derive(Clone, Copy)]
 pub struct IntervalNumber(pub u32);
 
 // The interval of worker w after event `to`, from the one after event `from`: every interval number is counted here.

@@ -16,7 +16,7 @@ ghost use Rattle.lower_cut.specs.Calls.{found_cut, cut_answer, cut_total_words, 
 pub const CUT_TOTALS: usize = 2;
 
 // What the lower cut returns beside its words.
-#[derive(Drop)]
+#[derive(Clone, Copy)]
 pub struct Cut {
     pub refusal: u32,
     pub visits: u64,

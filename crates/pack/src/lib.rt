@@ -15,7 +15,7 @@ ghost use Rattle.pack.specs.Calls.{room_refusal, pack_refusal, pack_answer};
 ghost use Rattle.pack.specs.Archive.{Archived};
 
 // What packing returns: the number that refuses it and the bytes written.
-#[derive(Drop)]
+#[derive(Clone, Copy)]
 pub struct Packed {
     pub refusal: u32,
     pub written: u64,

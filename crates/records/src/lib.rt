@@ -26,7 +26,7 @@ const MARK: u32 = 2147483648;
 
 // The kind of an event: a case for each kind of the record table, a send, a receive without its data logged and one with it, and one for
 // all the rest.
-#[derive(Drop)]
+#[derive(Clone, Copy)]
 pub enum Kind {
     Send,
     Unlogged,
@@ -35,7 +35,7 @@ pub enum Kind {
 }
 
 // An event: `send` is the index of the send that a receive names, and 0 for a send.
-#[derive(Drop)]
+#[derive(Clone, Copy)]
 pub struct Event {
     pub kind: Kind,
     pub peer: u8,
@@ -45,7 +45,7 @@ pub struct Event {
 }
 
 // The state of a worker after `index` events. A withdrawn one has its record alone.
-#[derive(Drop)]
+#[derive(Clone, Copy)]
 pub struct Checkpoint {
     pub index: u32,
     pub identifier: u32,

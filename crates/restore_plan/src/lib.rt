@@ -7,7 +7,7 @@ pub const PLAN_WORDS: usize = 3 * event_log::MAX_WORKERS;
 pub const PLAN_TOTALS: usize = 4;
 
 // What the plan returns beside its words.
-#[derive(Drop)]
+#[derive(Clone, Copy)]
 pub struct Totals {
     pub refusal: u32,
     pub visits: u64,

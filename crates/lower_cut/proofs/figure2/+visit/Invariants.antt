@@ -1,0 +1,16 @@
+use Prim.Native.Nat.{◌+◌, ◌*◌, ◌-◌}
+use Rattle.event_log.specs.Layout.{workers_of}
+use Rattle.event_log.specs.Model.{event_of}
+use Rattle.lower_cut.proofs.Loop.{Going}
+use Rattle.lower_cut.proofs.figure2.+visit.Given as goal
+
+abbrev pub invariant-loop-v : goal.invariant-loop-v
+invariant-loop-v l =
+    Going (workers_of l.log) l.i l.first l.event l.initial.cut l.initial.rows l.visits l.n l.below (record { cut = l.cut; visits = l.total }) l.rows l.workers l.events l.stale l.j l.v
+
+abbrev pub decreases-loop-v : goal.decreases-loop-v
+decreases-loop-v l = 2 * (l.n - l.v) + l.j
+
+-- the visited event's stamp
+abbrev pub decreases-visit : goal.decreases-visit
+decreases-visit l = (event_of (workers_of l.log.now) l.i l.event).stamp
