@@ -1,7 +1,7 @@
 use mathlib.Core.Path.{◌≡◌}
 use Prim.Native.Nat.{◌≤◌, ◌-◌}
 use lib.ListN.{length}
-use Rattle.event_log.specs.Model.{workers_of}
+use Rattle.event_log.specs.Layout.{workers_of}
 use Rattle.plan_text.specs.Text.{process_lines}
 use Rattle.plan_text.specs.Buffer.{Adds}
 use Rattle.plan_text.proofs.put_processes.Given as goal
