@@ -1,7 +1,7 @@
 #!/usr/bin/env python3
 """Runs the benchmark and records it: the raw output in docs/benchmark.txt, its tables in docs/BENCHMARK.md.
 
-  scripts/benchmark.py           after `rt staticlib planner`
+  scripts/benchmark.py           after scripts/static_library.sh
   scripts/benchmark.py --table   the tables of docs/benchmark.txt as it is, without a run
 
 The first table gives, for each call and family of logs, the smallest and the largest ratio of the exported call's time to the

@@ -1,14 +1,16 @@
 #!/usr/bin/env python3
-"""Whether each must-fail edit was refused at the fact that it stands for, after `rt ci` or `rt must-fail`.
+"""Whether each must-fail edit was refused at the fact that it stands for, by what `rt ci` or `rt must-fail` printed.
 
-    scripts/edits.py             all edits; exit status 1 where one was not tried, or was refused elsewhere than it says
-    scripts/edits.py NAME ..     those of these crates
-    scripts/edits.py --write     puts the place of each refusal into its edit: then each is read against the edit's name
+    scripts/edits.py FILE            all edits; exit status 1 where one was not tried, or was refused elsewhere than it says
+    scripts/edits.py FILE NAME ..    those of these crates
+    scripts/edits.py FILE --write    puts the place of each refusal into its edit: then each is read against the edit's name
 
-The line `at:` of an edit names the place at which the prover must refuse it first: a file of its crate, the need or the law there, and
-where that is a record, its field. rt passes over the line. The first error is read from target/must-fail/CRATE/EDIT/.log. One that is
-about a name, a module, a field, an argument or a need that is gone shows nothing: the edit made the proof unfit, and the fact was never
-asked.
+FILE holds what was printed: a line for each edit, with the first error that refuses it, which rt cuts off after 160 characters.
+
+The line `at:` of an edit, which may begin with `# `, names the place at which the prover must refuse it first. Where a proof is refused, that
+is a file of its crate, the goal or the lemma there, and where that is a record, its field. Where rattle itself found no proof of a goal that has
+no answer, it is the file of the source, the function there, and the goal. rt passes over the line. An error that is about a name, a module, a
+field, an argument or a goal that is gone shows nothing: the edit made the proof unfit, and the fact was never asked.
 """
 
 import pathlib
@@ -18,12 +20,18 @@ import sys
 TOP = pathlib.Path(__file__).resolve().parent.parent
 GONE = re.compile(
     r"that can be named from here|no module is found|has no field|is not in scope|Parse|Scope|takes .* argument|was not admitted")
-ERROR = re.compile(r"^(?P<file>.*?):(?P<line>\d+):\d+: error: `(?P<law>[^`]+)`: (?P<said>.*)$")
+TRIED = re.compile(r"^(?:rt: )?must-fail (?P<crate>\w+)/(?P<edit>[\w.-]+)\.edit: (?P<said>.*)$")
+REFUSED = re.compile(r"^refused, as it must be(?: \((?P<but>.*?)\))?: (?P<error>(?:note: )?\S+:\d+:\d+: .*)$")
+ERROR = re.compile(r"^(?:\./)?(?P<file>\S+?):(?P<line>\d+):\d+: error: `(?P<law>[^`]+)`: (?P<said>.*)$")
+OPEN = re.compile(r"^note: (?:\./)?(?P<file>\S+?):(?P<line>\d+):\d+: [^(`]*\(`(?P<goal>[^`]+)`")
 FIELD = re.compile(r"^\s+(?P<field>[\w-]+) =(?: |$)")
+FUNCTION = re.compile(r"^\s*(?:pub(?:\([\w:]+\))? )?(?:final |const |unsafe )*(?:extern \"C\" )?fn (?P<function>\w+)")
 
 
-def first_error(log):
-    return next((line for line in log.read_text(encoding="utf-8", errors="replace").splitlines() if ": error" in line), "")
+def tried(printed):
+    """What is said of each edit that was tried, by crate and edit."""
+    found = (TRIED.match(line) for line in printed.splitlines())
+    return {(line["crate"], line["edit"]): line["said"] for line in found if line}
 
 
 def field_of(lines, at, law):
@@ -41,49 +49,69 @@ def field_of(lines, at, law):
     return []
 
 
-def place_of(edit):
+def function_of(lines, at):
+    """The function that line `at` of the source is in: the nearest above that line, or below the attributes that it is one of."""
+    while at + 1 < len(lines) and lines[at].lstrip().startswith(("#[", "//")):
+        at += 1
+    found = (FUNCTION.match(line) for line in reversed(lines[:at + 1]))
+    return next((line["function"] for line in found if line), "?")
+
+
+def place_of(edit, said):
     """The place of the first error, or what is wrong with it."""
     crate = edit.parent.parent
-    room = TOP / "target" / "must-fail" / crate.name / edit.stem
-    if not (room / ".log").exists():
-        return None, "was not tried"
-    error = first_error(room / ".log")
-    found = ERROR.match(error)
-    if not found:
-        return None, "is refused with no law named: %s" % error[:120]
-    if GONE.search(found["said"]):
-        return None, "is refused for what is gone: %s" % found["said"][:120]
-    file = found["file"].split("/must-fail/%s/%s/" % (crate.name, edit.stem))[-1]
-    lines = (crate / file).read_text(encoding="utf-8").splitlines()
-    return " ".join([file, found["law"]] + field_of(lines, int(found["line"]) - 1, found["law"])), ""
+    refused = REFUSED.match(said)
+    if not refused:
+        return None, "is not refused at a place: %s" % said[:200]
+    error = refused["error"]
+    if "names what the edit took away" in (refused["but"] or ""):
+        return None, "is refused for what is gone: %s" % error[:160]
+    for shape in (ERROR, OPEN):
+        found = shape.match(error)
+        if found:
+            lines = (crate / found["file"]).read_text(encoding="utf-8").splitlines()
+            at = int(found["line"]) - 1
+            if shape is OPEN:
+                return " ".join([found["file"], function_of(lines, at), found["goal"]]), ""
+            if GONE.search(found["said"]):
+                return None, "is refused for what is gone: %s" % found["said"][:160]
+            return " ".join([found["file"], found["law"]] + field_of(lines, at, found["law"])), ""
+    return None, "is refused with no goal or lemma named: %s" % error[:160]
 
 
-def check(edit, write):
+def check(edit, said, write):
     """What is wrong with an edit, or nothing."""
-    place, wrong = place_of(edit)
-    text = edit.read_text(encoding="utf-8")
-    said = re.search(r"^at: (.*)\n", text, re.M)
+    if said is None:
+        return "was not tried"
+    place, wrong = place_of(edit, said)
     if wrong:
         return wrong
+    text = edit.read_text(encoding="utf-8")
+    named = re.search(r"^(?:# )?at: (.*)\n", text, re.M)
     if write:
-        kept = re.sub(r"^at: .*\n", "", text, flags=re.M)
-        edit.write_text(re.sub(r"^(?=file: )", "at: %s\n" % place, kept, count=1, flags=re.M), encoding="utf-8")
+        kept = re.sub(r"^(?:# )?at: .*\n", "", text, flags=re.M)
+        edit.write_text(re.sub(r"^(?=file: )", "# at: %s\n" % place, kept, count=1, flags=re.M), encoding="utf-8")
         return ""
-    if not said:
+    if not named:
         return "has no line `at:`; it is refused at %s" % place
-    return "" if said[1] == place else "is refused at %s, not at %s" % (place, said[1])
+    return "" if named[1] == place else "is refused at %s, not at %s" % (place, named[1])
 
 
 def main(words):
     write = "--write" in words
-    crates = [word for word in words if not word.startswith("-")] or ["*"]
+    words = [word for word in words if not word.startswith("-")]
+    if not words:
+        sys.exit(__doc__)
+    said = tried(pathlib.Path(words[0]).read_text(encoding="utf-8", errors="replace"))
+    crates = words[1:] or ["*"]
     edits = sorted(edit for crate in crates for edit in TOP.glob("crates/%s/must-fail/*.edit" % crate))
     faults = 0
     for edit in edits:
-        wrong = check(edit, write)
+        name = (edit.parent.parent.name, edit.stem)
+        wrong = check(edit, said.get(name), write)
         if wrong:
             faults += 1
-            print("%s/%s %s" % (edit.parent.parent.name, edit.stem, wrong))
+            print("%s/%s %s" % (*name, wrong))
     done = "have the place of their refusal now" if write else "refused at the fact that they name"
     print("%d edits, %d of them %s" % (len(edits), len(edits) - faults, done))
     return 1 if faults or not edits else 0

@@ -1,7 +1,7 @@
 #!/usr/bin/env python3
 """Runs the program `plan` on every stored case and on the inputs at the edges of its own limits.
 
-    scripts/run_plan.py target/bin/plan
+    scripts/run_plan.py crates/plan/out/plan      where `rt ci`, or `rt run` in crates/plan, puts it
 
 What it prints must be the text of reference.py.
 """

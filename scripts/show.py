@@ -4,8 +4,8 @@
     scripts/show.py          the names of the cases
     scripts/show.py NAME     one case, on 120 columns
 
-The expected lines are those of expected.py. The others are what target/bin/cases, as the last `rt check` built it, prints for
-the case as make_cases.py has it now; it need not be stored yet. Each call of a line stands on a row of its own, after its label,
+The expected lines are those of expected.py. The others are what crates/cases/out/cases, as `rt ci` or `rt run` built it last,
+prints for the case as make_cases.py has it now; it need not be stored yet. Each call of a line stands on a row of its own, after its label,
 with the words that it changes and what it returns; expected.py says how. A row that differs begins with `!`, and then the exit
 status is 1.
 """
@@ -27,7 +27,7 @@ import reference
 from calls import LINE, NAMES, case_of, labelled, listed
 from expected import case_lines
 
-PROGRAM = os.path.abspath(os.path.join(make_cases.CRATE, "..", "..", "target", "bin", "cases"))
+PROGRAM = os.path.abspath(os.path.join(make_cases.CRATE, "out", "cases"))
 
 # The columns of a row, of one of its two sides, and the events of a worker that are shown.
 WIDTH = 118
@@ -156,7 +156,7 @@ def show(name):
     expected, found, labels = case_lines(name, content, extra).splitlines(), given(name), labels_of(content, extra)
     if found is not None:
         return compare(expected, found.splitlines(), labels)
-    print("target/bin/cases is not built (rt check cases builds it): the expected lines alone")
+    print("crates/cases/out/cases is not built (rt run in crates/cases builds it): the expected lines alone")
     for line, names in zip(expected, labels):
         head, texts = calls_in(line)
         print("  " + head)

@@ -1,4 +1,4 @@
-//! Finds `libplanner.a`, which `rt staticlib planner` writes, and has it linked.
+//! Finds `libplanner.a`, which `scripts/static_library.sh` writes, and has it linked.
 
 use std::env;
 use std::path::PathBuf;
@@ -19,7 +19,7 @@ fn main() {
     println!("cargo:rerun-if-changed={}", archive.display());
     if !archive.is_file() {
         eprintln!(
-            "{} is not there: run `rt staticlib planner` in the repository, or set {VARIABLE} to the directory that has it",
+            "{} is not there: run `scripts/static_library.sh` of the repository, or set {VARIABLE} to the directory that has it",
             archive.display()
         );
         std::process::exit(1);

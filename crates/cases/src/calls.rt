@@ -6,6 +6,8 @@ use super::numbers::{
 };
 use super::text::{GUARD, PAST, TOTALS, UNTOUCHED, print_changes};
 use super::{numbers, text};
+use std::io;
+use std::io::Write;
 
 // The numbers of the calls. Those from 15 to 23 are free.
 const LOG_REFUSAL: usize = 0;
@@ -39,7 +41,14 @@ const INTERVALS: usize = 13;
 const SHEET: usize = 14;
 
 // The calls that write words of one kind; a number that is free makes none. `value` is the worker, or the identifier of a covering set.
-fn run_one(log: &[u8], event: u32, given: [u32; SIZE], call: usize, value: u32) -> u32 {
+fn run_one<W: Write>(
+    out: &mut W,
+    log: &[u8],
+    event: u32,
+    given: [u32; SIZE],
+    call: usize,
+    value: u32,
+) -> io::Result<u32> {
     let mut read = given;
     let mut loaded = given;
     let mut written = given;
@@ -57,12 +66,12 @@ fn run_one(log: &[u8], event: u32, given: [u32; SIZE], call: usize, value: u32) 
         BUILT_IN => planner::built_in_table(lent),
         _ => 0,
     };
-    print_changes(b'w', WRITTEN_AT, given, written);
-    number
+    print_changes(out, b'w', WRITTEN_AT, given, written)?;
+    Ok(number)
 }
 
 // The steps of a list.
-fn run_steps(log: &[u8], given: [u32; SIZE]) -> u32 {
+fn run_steps<W: Write>(out: &mut W, log: &[u8], given: [u32; SIZE]) -> io::Result<u32> {
     let mut read = given;
     let mut list = given;
     let mut written = given;
@@ -76,35 +85,47 @@ fn run_steps(log: &[u8], given: [u32; SIZE]) -> u32 {
         workers,
         part(&mut answers, numbers::ANSWERS, ANSWERS_AT),
     );
-    print_changes(b'w', WRITTEN_AT, given, written);
-    print_changes(b'a', ANSWERS_AT, given, answers);
-    number
+    print_changes(out, b'w', WRITTEN_AT, given, written)?;
+    print_changes(out, b'a', ANSWERS_AT, given, answers)?;
+    Ok(number)
 }
 
 // Prints the scratch that a search changes where it is refused, and else the words behind it, since the scratch itself is then free.
-fn print_scratch(number: u32, given: [u32; SIZE], scratch: &[u32; SCRATCH_ROOM]) {
+fn print_scratch<W: Write>(
+    out: &mut W,
+    number: u32,
+    given: [u32; SIZE],
+    scratch: &[u32; SCRATCH_ROOM],
+) -> io::Result<()> {
     if number != 0 {
-        text::print_scratch_from(b's', 0, scratch);
-        return;
+        return text::print_scratch_from(out, b's', 0, scratch);
     }
-    text::print_scratch_from(b'g', wide(given[numbers::SCRATCH]), scratch);
+    text::print_scratch_from(out, b'g', wide(given[numbers::SCRATCH]), scratch)
 }
 
 // Prints what a search leaves.
-fn print_search(
+fn print_search<W: Write>(
+    out: &mut W,
     number: u32,
     given: [u32; SIZE],
     written: [u32; SIZE],
     scratch: &[u32; SCRATCH_ROOM],
     totals: &[u64; TOTALS],
-) {
-    print_changes(b'w', WRITTEN_AT, given, written);
-    print_scratch(number, given, scratch);
-    text::print_totals(totals);
+) -> io::Result<()> {
+    print_changes(out, b'w', WRITTEN_AT, given, written)?;
+    print_scratch(out, number, given, scratch)?;
+    text::print_totals(out, totals)
 }
 
 // The lower cut or the plan.
-fn run_search(log: &[u8], event: u32, given: [u32; SIZE], is_plan: bool, worker: u32) -> u32 {
+fn run_search<W: Write>(
+    out: &mut W,
+    log: &[u8],
+    event: u32,
+    given: [u32; SIZE],
+    is_plan: bool,
+    worker: u32,
+) -> io::Result<u32> {
     let mut loaded = given;
     let mut written = given;
     let mut scratch = [FILLER; SCRATCH_ROOM];
@@ -117,12 +138,18 @@ fn run_search(log: &[u8], event: u32, given: [u32; SIZE], is_plan: bool, worker:
     } else {
         planner::lower_cut(log, worker, event, lent, room, &mut totals)
     };
-    print_search(number, given, written, &scratch, &totals);
-    number
+    print_search(out, number, given, written, &scratch, &totals)?;
+    Ok(number)
 }
 
 // The plan, and the steps of a list from its starts.
-fn run_restore(log: &[u8], event: u32, given: [u32; SIZE], worker: u32) -> u32 {
+fn run_restore<W: Write>(
+    out: &mut W,
+    log: &[u8],
+    event: u32,
+    given: [u32; SIZE],
+    worker: u32,
+) -> io::Result<u32> {
     let mut list = given;
     let mut loaded = given;
     let mut written = given;
@@ -144,14 +171,14 @@ fn run_restore(log: &[u8], event: u32, given: [u32; SIZE], worker: u32) -> u32 {
         part(&mut answers, numbers::ANSWERS, ANSWERS_AT),
         numbers::part_of_totals(&mut totals, given),
     );
-    print_changes(b'p', WRITTEN_AT, given, positions);
-    print_changes(b'a', ANSWERS_AT, given, answers);
-    print_search(number, given, written, &scratch, &totals);
-    number
+    print_changes(out, b'p', WRITTEN_AT, given, positions)?;
+    print_changes(out, b'a', ANSWERS_AT, given, answers)?;
+    print_search(out, number, given, written, &scratch, &totals)?;
+    Ok(number)
 }
 
 // The sheet of a list of breakpoints.
-fn run_sheet(log: &[u8], given: [u32; SIZE]) -> u32 {
+fn run_sheet<W: Write>(out: &mut W, log: &[u8], given: [u32; SIZE]) -> io::Result<u32> {
     let mut list = given;
     let mut loaded = given;
     let mut sheet = [SHEET_FILLER; SHEET_ROOM];
@@ -165,9 +192,9 @@ fn run_sheet(log: &[u8], given: [u32; SIZE]) -> u32 {
         numbers::part_of_sheet(&mut sheet, given),
         numbers::part_of_scratch(&mut scratch, given),
     );
-    text::print_sheet(&sheet);
-    print_scratch(number, given, &scratch);
-    number
+    text::print_sheet(out, &sheet)?;
+    print_scratch(out, number, given, &scratch)?;
+    Ok(number)
 }
 
 // Packing, or the conversion to an interval log.
@@ -179,7 +206,12 @@ fn write_log(log: &[u8], is_pack: bool, out: &mut [u8], written: &mut [u64]) -> 
 }
 
 // The packed log or the interval log, in the bytes that are lent.
-fn run_writer(log: &[u8], given: [u32; SIZE], is_pack: bool) -> u32 {
+fn run_writer<W: Write>(
+    out: &mut W,
+    log: &[u8],
+    given: [u32; SIZE],
+    is_pack: bool,
+) -> io::Result<u32> {
     let mut bytes = [GUARD; ROOM + PAST];
     let mut totals = [UNTOUCHED; TOTALS];
     let count = numbers::bytes_lent(given);
@@ -190,37 +222,37 @@ fn run_writer(log: &[u8], given: [u32; SIZE], is_pack: bool) -> u32 {
         numbers::part_of_totals(&mut totals, given),
     );
     let shown = numbers::first(&mut bytes, count + PAST);
-    text::print_bytes(shown);
-    text::print_totals(&totals);
-    number
+    text::print_bytes(out, shown)?;
+    text::print_totals(out, &totals)?;
+    Ok(number)
 }
 
 // A call, with its name before what it changes and its result after that; or a new line of this number.
-pub(crate) fn run_entry(
-    name: &[u8],
+pub(crate) fn run_entry<W: Write>(
+    out: &mut W,
+    name: &str,
     log: &[u8],
     event: u32,
     given: [u32; SIZE],
     call: usize,
     value: u32,
-) {
+) -> io::Result<()> {
     if call < LINE {
-        text::print_name(call);
+        text::print_name(out, call)?;
         let number = match call {
-            STEPS => run_steps(log, given),
-            LOWER_CUT => run_search(log, event, given, false, value),
-            PLAN => run_search(log, event, given, true, value),
-            RESTORE => run_restore(log, event, given, value),
-            PACK => run_writer(log, given, true),
-            INTERVALS => run_writer(log, given, false),
-            SHEET => run_sheet(log, given),
-            _ => run_one(log, event, given, call, value),
+            STEPS => run_steps(out, log, given)?,
+            LOWER_CUT => run_search(out, log, event, given, false, value)?,
+            PLAN => run_search(out, log, event, given, true, value)?,
+            RESTORE => run_restore(out, log, event, given, value)?,
+            PACK => run_writer(out, log, given, true)?,
+            INTERVALS => run_writer(out, log, given, false)?,
+            SHEET => run_sheet(out, log, given)?,
+            _ => run_one(out, log, event, given, call, value)?,
         };
-        text::print_byte(b' ');
-        text::print_number(b'=', number);
-        return;
+        text::print_byte(out, b' ')?;
+        return text::print_number(out, b'=', number);
     }
-    text::print_byte(b'\n');
-    io::write_all(libc::STDOUT_FILENO, name);
-    text::print_number(b' ', value);
+    text::print_byte(out, b'\n')?;
+    out.write_all(name.as_bytes())?;
+    text::print_number(out, b' ', value)
 }

@@ -1,63 +1,95 @@
 // Makes the calls that standard input lists for each case, and prints what each returns and the words or bytes that it changes, each line with
 // the case's name first. `scripts/calls.py` says which calls they are, and how they are listed.
 // An argument names a case file, an input of the program `plan`: worker and event, 32 bits each, then the log.
+#![tactic(auto)]
+
+ghost use Rattle.std.specs.Prelude.{◌≤◌, IfOk, length};
 
 mod calls;
 mod numbers;
 mod text;
 
-use libc::{STDIN_FILENO, STDOUT_FILENO};
-use numbers::SIZE;
+use numbers::{ROOM, SIZE};
+use std::io::{BufReader, BufWriter, Read, Write};
+use std::rt::Files;
+use std::{env, fs, io};
+
+// Reads until the buffer is full or the file ends, and gives how many bytes are read.
+fn read_full<R: Read>(file: &mut R, buffer: &mut [u8]) -> io::Result<usize>
+    ensures { IfOk result (λ n. n ≤ length buffer.new) }
+{
+    let mut done: usize = 0;
+    while done < buffer.len() {
+        let count = file.read(&mut buffer[done..])?;
+        if count == 0 {
+            break;
+        }
+        done += count;
+    }
+    Ok(done)
+}
 
 // The next number of a file, of 4 bytes with the lowest first; 0 after its end.
-fn read_number(file: i32) -> u32 {
+fn read_number<R: Read>(file: &mut R) -> io::Result<u32> {
     let mut bytes = [0u8; 4];
-    io::read_full(file, &mut bytes);
-    bytes_le::read4(&bytes, 0)
+    read_full(file, &mut bytes)?;
+    Ok(bytes_le::read4(&bytes, 0))
 }
 
 // The entries of a case, each the place of a number and its value. At a place below ENTRIES it is a call or a new line.
-fn run_entries(name: &[u8], log: &[u8], event: u32) {
+fn run_entries<R: Read, W: Write>(
+    input: &mut R,
+    out: &mut W,
+    name: &str,
+    log: &[u8],
+    event: u32,
+) -> io::Result<()> {
     let mut given = [numbers::FILLER; SIZE];
-    let count = read_number(STDIN_FILENO);
-    let mut k: u32 = 0;
-    while k < count {
-        let at = read_number(STDIN_FILENO) as usize % SIZE;
-        let value = read_number(STDIN_FILENO);
+    let count = read_number(input)?;
+    for _ in 0..count {
+        let at = read_number(input)? as usize % SIZE;
+        let value = read_number(input)?;
         given[at] = value;
         if at < numbers::ENTRIES {
-            calls::run_entry(name, log, event, given, at, value);
+            calls::run_entry(out, name, log, event, given, at, value)?;
         }
-        k += 1;
     }
+    Ok(())
 }
 
 // The case in a file, as far as there is room for its log. Its worker is listed with each call.
-fn run_case(name: &[u8], file: i32) {
-    let mut log = io::large_buffer();
-    read_number(file);
-    let event = read_number(file);
-    let length = io::read_full(file, &mut log);
-    io::write_all(STDOUT_FILENO, name);
-    run_entries(name, &log[..length], event);
-    text::print_byte(b'\n');
+fn run_case<R: Read, W: Write, F: Read>(
+    input: &mut R,
+    out: &mut W,
+    name: &str,
+    file: &mut F,
+) -> io::Result<()> {
+    let mut log = [0u8; ROOM];
+    read_number(file)?;
+    let event = read_number(file)?;
+    let length = read_full(file, &mut log)?;
+    out.write_all(name.as_bytes())?;
+    run_entries(input, out, name, &log[..length], event)?;
+    text::print_byte(out, b'\n')
 }
 
-// The case that argument i names.
-fn run_argument(i: usize) {
-    let mut name = io::buffer();
-    let named = os::arg(i, &mut name);
-    let file = os::open_read(&name[..named]);
-    run_case(&name[..named], file);
-    libc::close(file);
+// The case that an argument names.
+fn run_argument<R: Read, W: Write>(
+    rt: &impl Files,
+    input: &mut R,
+    out: &mut W,
+    name: &str,
+) -> io::Result<()> {
+    let mut file = fs::open(rt, name)?;
+    run_case(input, out, name, &mut file)
 }
 
 // Every argument.
-fn main() {
-    let count = os::arg_count();
-    let mut i: usize = 1;
-    while i < count {
-        run_argument(i);
-        i += 1;
+fn main(rt: HostRuntime) -> io::Result<()> {
+    let mut input = BufReader::new(rt.alloc(), rt.reader())?;
+    let mut out = BufWriter::new(rt.alloc(), io::writer(&rt))?;
+    for name in env::args(&rt)?.skip(1) {
+        run_argument(&rt, &mut input, &mut out, name.as_str())?;
     }
+    out.flush()
 }

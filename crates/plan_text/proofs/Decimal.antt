@@ -1,42 +1,58 @@
--- The digits that `io::decimal` gives are the number in decimal, and how long they are.
+-- The digits of a number, put one before the other from the end of the bytes on.
 -- Assumes nothing.
-use mathlib.Core.Path.{◌≡◌, ◌∙◌, ap}
-use mathlib.Core.Logic.{⊎_elim}
-use mathlib.Core.List.{List, [], ◌∷◌, ◌++◌}
+use mathlib.Core.Path.{◌≡◌, sym, ◌∙◌}
+use mathlib.Core.List.{List, [], ◌∷◌, ◌++◌, append_assoc, append-nil}
 use Prim.Native.Nat.{ℕ, zero, suc, ◌+◌, ◌-◌, ◌^◌, ◌/◌, ◌%◌, ◌<◌, ◌≤◌}
-use native.Mathlib.Nat.{mod-eq_of_lt, pow-suc, pow-le-pow_right, one-le-pow}
+use native.Mathlib.Nat.{pow-suc}
+use native.Mathlib.Numerals.{add-one}
 use native.Mathlib.Omega.{arith}
 use borrow.Author.Tests.{lt-ltb, le-ltb}
-use mir.Syntax.{w64}
-use mir.Val.{Fits}
-use Rattle.ranges.proofs.Order.{lt_or_le}
-use Rattle.io.specs.Digits.{hex_digit_ascii, last_digits, IsDigitCount}
+use lib.ListN.{length, drop, set, drop_of_length-le}
+use Rattle.std.proofs.lemmas.List.{drop-set}
 use Rattle.plan_text.specs.Text.{spelled, decimal}
 
-digit : (d : ℕ) → d < 10 → hex_digit_ascii d ≡ 48 + d
-digit d h = rw (lt-ltb d 10 h)
-
--- the fewest digits of n are those of n / 10 and the last one
-pub digits_spelled : (most k n : ℕ) → k ≤ most → IsDigitCount 10 1 n k → last_digits 10 k n ≡ spelled most n
+-- a number of one digit, and of more: the last digit stands before what follows the number
+spelled_last : (k n : ℕ) (after : List ℕ) → n < 10 → spelled (suc k) n ++ after ≡ (48 + n) ∷ after
 unfolding spelled
-digits_spelled most zero n h f = let no : ⊥ = omega (arith, f.0) in absurd no
-digits_spelled zero (suc k) n h f = let no : ⊥ = omega arith in absurd no
-digits_spelled (suc most) (suc zero) n h f = rw (lt-ltb n 10 f.1, mod-eq_of_lt f.1, digit n f.1)
-digits_spelled (suc most) (suc (suc k)) n h f =
-    let less : suc (suc k) - 1 ≡ suc k = omega arith in
-    let least : 10 ^ suc k ≤ n = rw less at (f.2 (omega arith)) in
-    let power = pow-suc 10 k in
-    let one = one-le-pow k 10 (omega arith) in
-    let inner : suc k - 1 ≡ k = omega arith in
-    let rest : IsDigitCount 10 1 (n / 10) (suc k) =
-    (omega arith, omega (arith, f.1, pow-suc 10 (suc k)), λ more. rw inner (omega (arith, least, power))) in
-    ap (λ (r : List ℕ). r ++ (hex_digit_ascii (n % 10) ∷ [])) (digits_spelled most (suc k) (n / 10) (omega arith) rest)
-    ∙ rw (le-ltb n 10 (omega (arith, least, power, one)), digit (n % 10) (omega arith))
+spelled_last k n after h = rw (lt-ltb n 10 h)
 
--- a number of 64 bits has at most 20 digits
-twenty : (n k : ℕ) → Fits w64 n → IsDigitCount 10 1 n k → k ≤ 20
-twenty n k fits f = ⊎_elim (λ more. let no : ⊥ = omega (arith, fits, f.2 (omega arith), pow-le-pow_right {n = 10} (omega arith) {i = 20} {j = k - 1} (omega arith)) in absurd no) (λ h. h) (lt_or_le 20 k)
+spelled_more : (k n : ℕ) (after : List ℕ) → 10 ≤ n → spelled (suc k) n ++ after ≡ spelled k (n / 10) ++ ((48 + n % 10) ∷ after)
+unfolding spelled
+spelled_more k n after h = rw (le-ltb n 10 h) (append_assoc (spelled k (n / 10)) ((48 + n % 10) ∷ []) after)
 
-pub digits_decimal : (n k : ℕ) → Fits w64 n → IsDigitCount 10 1 n k → last_digits 10 k n ≡ decimal n
+-- what the bytes from a place on lack of a text: the digits of a number that has no more than there are places before
+pub record Lacks (digits : List ℕ) (from rest : ℕ) (text : List ℕ) : Type 0 where
+  pub some : 0 < from
+  pub fits : rest < 10 ^ from
+  pub whole : spelled from rest ++ drop from digits ≡ text
+
+-- all of the number, at first
+pub lacks_all : (digits : List ℕ) (n : ℕ) → length digits ≡ 20 → n < 18446744073709551616 → Lacks digits 20 n (decimal n)
 unfolding decimal
-digits_decimal n k fits f = digits_spelled 20 k n (twenty n k fits f) f
+lacks_all digits n long h = record {
+  some = omega arith;
+  fits = omega arith;
+  whole = let end : length digits ≤ 20 = omega arith in rw (drop_of_length-le digits end) (append-nil (spelled 20 n));
+}
+
+-- the last digit is put, and others are left
+pub lacks_fewer : (digits : List ℕ) (from rest : ℕ) (text : List ℕ) → from ≤ length digits → 10 ≤ rest → Lacks digits from rest text
+    → Lacks (set digits (from - 1) (48 + rest % 10)) (from - 1) (rest / 10) text
+lacks_fewer digits zero rest text inside more h = absurd (omega (arith, h.some))
+lacks_fewer digits (suc zero) rest text inside more h = absurd (omega (arith, h.fits))
+lacks_fewer digits (suc (suc k)) rest text inside more h =
+    let one : suc (suc k) - 1 ≡ suc k = omega arith in
+    let power = pow-suc 10 (suc k) in
+    rw one record {
+      some = omega arith;
+      fits = omega (arith, h.fits);
+      whole = rw (drop-set digits (suc k) (48 + rest % 10) (omega arith), add-one) (sym (spelled_more (suc k) rest (drop (suc (suc k)) digits) more) ∙ h.whole);
+    }
+
+-- the first digit is put
+pub lacks_none : (digits : List ℕ) (from rest : ℕ) (text : List ℕ) → from ≤ length digits → rest < 10 → Lacks digits from rest text
+    → drop (from - 1) (set digits (from - 1) (48 + rest)) ≡ text
+lacks_none digits zero rest text inside last h = absurd (omega (arith, h.some))
+lacks_none digits (suc k) rest text inside last h =
+    let one : suc k - 1 ≡ k = omega arith in
+    rw (one, drop-set digits k (48 + rest) (omega arith), add-one) (sym (spelled_last k rest (drop (suc k) digits) last) ∙ h.whole)

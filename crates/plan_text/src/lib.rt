@@ -1,6 +1,7 @@
 // What the program `plan` prints: the plan of an input, as text in a lent buffer.
+#![tactic(auto)]
 
-ghost use Rattle.std.specs.Prelude.{◌≡◌, [], ◌∷◌, ◌++◌, ◌+◌, ◌*◌, ◌<◌, ◌≤◌, length};
+ghost use Rattle.std.specs.Prelude.{◌≡◌, [], ◌∷◌, ◌++◌, ◌+◌, ◌*◌, ◌<◌, ◌≤◌, length, drop};
 ghost use Rattle.lent.specs.Lent.{words_refusal, unless_refused};
 ghost use Rattle.event_log.specs.Layout.{workers_of};
 ghost use Rattle.event_log.specs.Model.{worker_count};
@@ -11,7 +12,7 @@ ghost use Rattle.upper_line.specs.Upper.{upper_line};
 ghost use Rattle.restore_plan.specs.Plan.{plan_words};
 ghost use Rattle.unit_table.specs.Table.{built_in};
 ghost use Rattle.restore_plan.specs.Calls.{plan_total_words, found_plan, plan_totals};
-ghost use Rattle.plan_text.specs.Text.{with_number, ended, refused_text, breakpoint_line, four_numbers, words_of, process_line, process_lines, totals_line, found_text, plan_text, text_of};
+ghost use Rattle.plan_text.specs.Text.{decimal, with_number, ended, refused_text, breakpoint_line, four_numbers, words_of, process_line, process_lines, totals_line, found_text, plan_text, text_of};
 ghost use Rattle.plan_text.specs.Buffer.{Holds, Adds};
 
 // The longest input, in bytes.
@@ -44,14 +45,31 @@ fn put(out: &mut [u8], at: usize, bytes: &[u8]) -> usize
     next
 }
 
+// Writes the digits of a number to the end of the bytes, and gives the place of the first.
+fn write_decimal(number: u64, digits: &mut [u8; 20]) -> usize
+    ensures within { result ≤ 20 }
+    ensures text { drop result digits.new ≡ decimal number }
+{
+    let mut rest = number;
+    let mut from: usize = 20;
+    while 10 <= rest {
+        from -= 1;
+        digits[from] = b'0' + (rest % 10) as u8;
+        rest /= 10;
+    }
+    from -= 1;
+    digits[from] = b'0' + rest as u8;
+    from
+}
+
 // Puts a name and a number in decimal.
 fn put_number(out: &mut [u8], at: usize, name: &[u8], number: u64) -> usize
     ensures text { Adds out.old at out.new result (λ text. with_number text name.now number) }
 {
     let next = put(out, at, name);
     let mut digits = [0u8; 20];
-    let k = io::decimal(number, &mut digits);
-    put(out, next, &digits[..k])
+    let from = write_decimal(number, &mut digits);
+    put(out, next, &digits[from..])
 }
 
 // Puts a name and a 32-bit number.

@@ -28,8 +28,7 @@ ghost use Rattle.planner.specs.Answers.{answers_to, SameAnswers, AnsweredAlike};
 use causality::Test;
 
 // 0 for an accepted log, else the number that refuses it.
-#[unsafe(no_mangle)]
-pub extern "C" fn log_refusal(log: &[u8]) -> u32
+pub fn log_refusal(log: &[u8]) -> u32
     ensures answer { result ≡ log_refusal log.now }
     ensures once { result ≡ 0 → form_field log.now ≡ second_form → ReceivedOnce (workers_of log.now) }
     ensures twice { result ≡ 24 → (form_field log.now ≡ second_form) × ReceivedTwice (workers_of log.now) }
@@ -39,8 +38,7 @@ pub extern "C" fn log_refusal(log: &[u8]) -> u32
 }
 
 // Writes the packed log of an accepted log into lent bytes, and the number of bytes written to the first word of `written`.
-#[unsafe(no_mangle)]
-pub extern "C" fn pack(log: &[u8], out: &mut [u8], written: &mut [u64]) -> u32
+pub fn pack(log: &[u8], out: &mut [u8], written: &mut [u64]) -> u32
     ensures left { left result (out.new ∷ written.new ∷ [])
         ≡ pack_call (given log.now) (log_of log.now) out.old written.old }
     ensures archived { result ≡ 0 → Archived log.now (take (at written.new 0) out.new) }
@@ -57,8 +55,7 @@ pub extern "C" fn pack(log: &[u8], out: &mut [u8], written: &mut [u64]) -> u32
 }
 
 // Writes the interval log of an accepted log into lent bytes, and the number of bytes written to the first word of `written`.
-#[unsafe(no_mangle)]
-pub extern "C" fn intervals(log: &[u8], out: &mut [u8], written: &mut [u64]) -> u32
+pub fn intervals(log: &[u8], out: &mut [u8], written: &mut [u64]) -> u32
     ensures left { left result (out.new ∷ written.new ∷ [])
         ≡ (answers_to (given log.now)).of_intervals out.old written.old }
     ensures converted { result ≡ 0 → Converted log.now (take (at written.new 0) out.new) }
@@ -74,24 +71,21 @@ pub extern "C" fn intervals(log: &[u8], out: &mut [u8], written: &mut [u64]) -> 
 }
 
 // The dependency vector of an event.
-#[unsafe(no_mangle)]
-pub extern "C" fn vector(log: &[u8], worker: u32, event: u32, words: &mut [u32]) -> u32
+pub fn vector(log: &[u8], worker: u32, event: u32, words: &mut [u32]) -> u32
     ensures left { left result (words.new ∷ []) ≡ (answers_to (given log.now)).of_vector worker event words.old }
 {
     causality::vector(log, worker, event, words)
 }
 
 // The upper line of a breakpoint event.
-#[unsafe(no_mangle)]
-pub extern "C" fn upper_line(log: &[u8], worker: u32, event: u32, words: &mut [u32]) -> u32
+pub fn upper_line(log: &[u8], worker: u32, event: u32, words: &mut [u32]) -> u32
     ensures left { left result (words.new ∷ []) ≡ (answers_to (given log.now)).of_upper_line worker event words.old }
 {
     upper_line::upper_line(log, worker, event, words)
 }
 
 // The lower cut of a breakpoint event; the totals are its visits and its workers word.
-#[unsafe(no_mangle)]
-pub extern "C" fn lower_cut(
+pub fn lower_cut(
     log: &[u8],
     worker: u32,
     event: u32,
@@ -114,16 +108,14 @@ pub extern "C" fn lower_cut(
 }
 
 // 0 for a unit table that loads, else 27.
-#[unsafe(no_mangle)]
-pub extern "C" fn load_table(table: &[u32]) -> u32
+pub fn load_table(table: &[u32]) -> u32
     ensures answer { result ≡ table_refusal table.now }
 {
     unit_table::table_refusal(table)
 }
 
 // Writes the 12 words of the built-in table.
-#[unsafe(no_mangle)]
-pub extern "C" fn built_in_table(table: &mut [u32]) -> u32
+pub fn built_in_table(table: &mut [u32]) -> u32
     ensures left { left result (table.new ∷ []) ≡ built_in_call table.old }
     ensures loads { result ≡ 0 → table_refusal (take table_words table.new) ≡ 0 }
 {
@@ -136,8 +128,7 @@ pub extern "C" fn built_in_table(table: &mut [u32]) -> u32
 }
 
 // The plan of a breakpoint event, with its units by the unit table; the totals are its visits, events, units and workers word.
-#[unsafe(no_mangle)]
-pub extern "C" fn plan(
+pub fn plan(
     log: &[u8],
     worker: u32,
     event: u32,
@@ -166,14 +157,7 @@ pub extern "C" fn plan(
 
 // The sheet of a list of breakpoints: for each worker the replayed events and units, summed over their plans, and the number of plans that
 // replay an event of it.
-#[unsafe(no_mangle)]
-pub extern "C" fn sheet(
-    log: &[u8],
-    list: &[u32],
-    table: &[u32],
-    sheet: &mut [u64],
-    scratch: &mut [u32],
-) -> u32
+pub fn sheet(log: &[u8], list: &[u32], table: &[u32], sheet: &mut [u64], scratch: &mut [u32]) -> u32
     ensures left { left result (sheet.new ∷ []) ≡ (answers_to (given log.now)).of_sheet list.now table.now
         sheet.old (length scratch.old) }
     ensures kept { KeptIfRefused result scratch.old scratch.new }
@@ -207,8 +191,7 @@ fn write_answer(test: Test, answer: &mut [u32]) -> u32
 }
 
 // The cut test; the answer is 1 where the first n words are a consistent cut, else 0.
-#[unsafe(no_mangle)]
-pub extern "C" fn cut_test(log: &[u8], words: &[u32], answer: &mut [u32]) -> u32
+pub fn cut_test(log: &[u8], words: &[u32], answer: &mut [u32]) -> u32
     ensures left { left result (answer.new ∷ []) ≡ (answers_to (given log.now)).of_cut_test words.now answer.old }
     ensures exactly { result ≡ 0 → TellsConsistent (workers_of log.now) words.now (at answer.new 0) }
 {
@@ -217,8 +200,7 @@ pub extern "C" fn cut_test(log: &[u8], words: &[u32], answer: &mut [u32]) -> u32
 }
 
 // Whether the checkpoints with this identifier are a covering set; the answer is 1 where they are, else 0.
-#[unsafe(no_mangle)]
-pub extern "C" fn covers(log: &[u8], identifier: u32, answer: &mut [u32]) -> u32
+pub fn covers(log: &[u8], identifier: u32, answer: &mut [u32]) -> u32
     ensures left { left result (answer.new ∷ []) ≡ (answers_to (given log.now)).of_covers identifier answer.old }
     ensures exactly { result ≡ 0 → CoversWhenStartable (workers_of log.now) identifier (at answer.new 0) }
     ensures withdrawn { result ≡ 0 → CoversNoneWithdrawn (log_of log.now) identifier (at answer.new 0) }
@@ -228,16 +210,14 @@ pub extern "C" fn covers(log: &[u8], identifier: u32, answer: &mut [u32]) -> u32
 }
 
 // One step of a worker, over the words of a plan.
-#[unsafe(no_mangle)]
-pub extern "C" fn step(log: &[u8], words: &[u32], positions: &mut [u32], worker: u32) -> u32
+pub fn step(log: &[u8], words: &[u32], positions: &mut [u32], worker: u32) -> u32
     ensures left { left result (positions.new ∷ []) ≡ (answers_to (given log.now)).of_step words.now positions.old worker }
 {
     replay::step(log, words, positions, worker)
 }
 
 // A step for each number of a list.
-#[unsafe(no_mangle)]
-pub extern "C" fn steps(
+pub fn steps(
     log: &[u8],
     words: &[u32],
     positions: &mut [u32],
@@ -252,8 +232,7 @@ pub extern "C" fn steps(
 
 // The plan of a breakpoint event, and one call of `step` for each number of a list from the planned starts: demand 3. For each call its
 // answer and then the n positions stand in `steps`.
-#[unsafe(no_mangle)]
-pub extern "C" fn restore_and_replay(
+pub fn restore_and_replay(
     log: &[u8],
     worker: u32,
     event: u32,
