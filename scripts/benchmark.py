@@ -5,11 +5,10 @@
   scripts/benchmark.py --table   the tables of docs/benchmark.txt as it is, without a run
 
 The first table gives, for each call and family of logs, the smallest and the largest ratio of the exported call's time to the
-reference's, and in its last rows of a sheet's time to that of the exported plans of its list one by one, and of log_refusal's time to that
-of a plain pass over the log's bytes. The second one has form 2 beside form 1 of the same logs: for each call and order of the receives the
-smallest and the largest of each column over the sizes of logs. It is put at the end of the page where the page has none. The plans that
-pass over checkpoints, the growth of the conversion to an interval log with its worst case, the sheets of lists that grow, and the memory of
-each call are in the raw output alone.
+reference's, and in its last row of log_refusal's time to that of a plain pass over the log's bytes. The second one has form 2 beside
+form 1 of the same logs: for each call and order of the receives the smallest and the largest of each column over the sizes of logs.
+It is put at the end of the page where the page has none. The plans that pass over checkpoints, the growth of the conversion to an interval
+log with its worst case, and the memory of each call are in the raw output alone.
 """
 import math
 import pathlib
@@ -23,10 +22,7 @@ PAGE = TOP / 'docs' / 'BENCHMARK.md'
 FAMILIES = ['run', 'deep', 'hub', 'two-level hub', 'chain', 'wide chain', 'ring']
 AIM = 1.3
 PASS = 'log_refusal over a plain pass'
-SINGLES = ['sheet_16 over its plans one by one', 'sheet_1024 over its plans one by one']
-# The calls whose rows have a second ratio, to something else than the reference, with the name of the table's row for it.
-SECOND = {'sheet_16': SINGLES[0], 'sheet_1024': SINGLES[1], 'log_refusal': PASS}
-AIMS = {'pack': 1.5, 'pack_moved': 1.5, 'intervals': 2.5, SINGLES[0]: 1.0, SINGLES[1]: 1.0, PASS: 3.5}
+AIMS = {'pack': 1.5, 'pack_moved': 1.5, 'intervals': 2.5, PASS: 3.5}
 FORMS = 'form 2 beside form 1'
 MEMORY = 'memory of a call'
 FORMS_HEAD = ['call on form 2', 'ns an event of form 1', 'of form 2', 'form 2 over form 1', "the reference's",
@@ -35,19 +31,18 @@ FORM_AIMS = {'in order': 2.0, 'in any order': 4.0}
 
 
 def ratios(raw):
-    """{call: {family: [exported over reference, ..]}}, calls in the order of the output, and the rows of the second ratios."""
-    found, second, family = {}, {name: {} for name in SECOND.values()}, None
+    """{call: {family: [exported over reference, ..]}}, calls in the order of the output, and the row of plain passes."""
+    found, passes, family = {}, {}, None
     for line in raw.split(FORMS)[0].split('\n'):
         head = re.match(rf'({"|".join(FAMILIES)})\b.*: \d+ events, ', line)
         if head:
             family = head.group(1)
         row = re.match(r'  (\w+) +[\d.]+ +[\d.]+ +[\d.]+ +([\d.]+) +([\d.]+) ', line)
         if row and family:
-            call = row.group(1)
-            found.setdefault(call, {}).setdefault(family, []).append(float(row.group(2)))
-            if call in SECOND:
-                second[SECOND[call]].setdefault(family, []).append(float(row.group(3)))
-    return {**found, **{name: families for name, families in second.items() if families}}
+            found.setdefault(row.group(1), {}).setdefault(family, []).append(float(row.group(2)))
+            if row.group(1) == 'log_refusal':
+                passes.setdefault(family, []).append(float(row.group(3)))
+    return {**found, PASS: passes}
 
 
 def cell(values, aim=math.inf):
@@ -61,7 +56,7 @@ def cell(values, aim=math.inf):
 def table(found):
     rows = ['| call | ' + ' | '.join(FAMILIES) + ' |', '|---' * (len(FAMILIES) + 1) + '|']
     for call, families in found.items():
-        rows.append('| ' + ' | '.join([call] + [cell(families.get(f), AIMS.get(call, AIM)) for f in FAMILIES]) + ' |')
+        rows.append('| ' + ' | '.join([call] + [cell(families[f], AIMS.get(call, AIM)) for f in FAMILIES]) + ' |')
     return '\n'.join(rows) + '\n'
 
 

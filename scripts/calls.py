@@ -1,10 +1,9 @@
 """The calls that the program `cases` makes on a case, and how its standard input lists them.
 
 The program has an array of SIZE numbers: how many words, or bytes, are lent of each kind, the words that a call reads, and the
-words that it writes over. Each is FILLER at first, and so is each of SCRATCH_ROOM words of scratch before a call; each of SHEET_ROOM
-64-bit words of a sheet is SHEET_FILLER then. Standard input has for each case the number of its entries and then the entries, each a
-place and a value, in numbers of 4 bytes with the lowest first. An entry puts the value at the place. At a place below ENTRIES it is an
-action besides:
+words that it writes over. Each is FILLER at first, and so is each of SCRATCH_ROOM words of scratch before a call. Standard input
+has for each case the number of its entries and then the entries, each a place and a value, in numbers of 4 bytes with the lowest
+first. An entry puts the value at the place. At a place below ENTRIES it is an action besides:
 
     below CALLS    the call of this number in NAMES, on the numbers as they are. The value is its worker, or the identifier of a
                    covering set
@@ -26,7 +25,6 @@ The lines of a case:
     18 + w       three steps of worker w, while every other worker starts at its cut: what these sent before is lost
     82           in some cases: with each number of scratch words of `scratch_lengths`, the lower cut, the plan, and the plan with a
                  list of steps
-    83           in some cases: the sheets that make_cases.py has for the case, each a `Sheet`
 
 The ways: in way k, 0 to 5, one word or byte too few is lent of kind k, and just enough of the others. In ways 6 and 7 it is just
 enough of each kind, in way 8 it is 8 more than needed, and in way 9 one too few. A call that only writes words is lent fillers.
@@ -34,10 +32,6 @@ The others are given the words of the case, all from reference.py: its lower cut
 where the case is refused they are fillers. The identifier of a covering set is 4294967295 in way 0, the largest without the mark of
 a withdrawn checkpoint in way 5, a 1 with the mark in way 6, and k - 1 in each other way k. The unit table of a plan is
 IN_WAY[k]; in ways 0, 1 and 9 it is one that does not load. In way 6 both calls of a plan are made again, with one that does not.
-
-`sheet` is the last call in each way, with the table of the way; the words of the sheet are one too few in way 4, and its scratch in way
-1. Its list is LISTED[k], of the case's breakpoint and of the first and the last event of the log, where that is accepted and has events.
-In way 3 it is empty, and in way 7 it has an odd number of words.
 
 `pack` and `intervals` are called in ways 4 to 9 alone, and in way 7 with no byte lent. They are lent bytes for the packed log and for
 the interval log, as many as the log has where that is refused, but never more than ROOM. Ways 6 and 8, in which they write, are left
@@ -47,7 +41,6 @@ checkpoints fall into one interval, `intervals` is lent bytes for the interval l
 
 import itertools
 import struct
-from collections import namedtuple
 
 import reference
 
@@ -57,16 +50,16 @@ MAX_WORKERS = reference.MAX_WORKERS
 CALLS = 24
 NAMES = (
     "log_refusal", "vector", "upper_line", "covers", "cut_test", "step", "steps", "lower_cut", "plan", "restore", "pack",
-    "load_table", "built_in", "intervals", "sheet")
+    "load_table", "built_in", "intervals")
 LINE = CALLS
 ENTRIES = LINE + 1
 
 # The places of the counts: the words that a call reads, and those that it writes, which are a line, a cut, a plan, the answer of
 # a test, the positions of a step or the built-in table; scratch; the positions and answers of a list of steps; totals; bytes; the
-# list; the unit table; a file; a name; a sheet.
-READ, WRITTEN, SCRATCH, POSITIONS, ANSWERS, TOTALS, BYTES, LIST, TABLE, FILE, NAME, SHEET = range(32, 44)
+# list; the unit table; a file; a name.
+READ, WRITTEN, SCRATCH, POSITIONS, ANSWERS, TOTALS, BYTES, LIST, TABLE, FILE, NAME = range(32, 43)
 
-# How many numbers the longest list of steps has, one that is lent with a plan, and one that is lent with a plan and each table.
+# How many numbers the longest list has, one that is lent with a plan, and one that is lent with a plan and each table.
 LONGEST = 8 * (MAX_WORKERS + 2)
 REPLAYED = 32
 REPLAYED_BY_TABLE = 3
@@ -84,12 +77,8 @@ SIZE = ANSWERS_AT + REPLAYED * (MAX_WORKERS + 1) + 8
 # The words of scratch that there are to lend.
 SCRATCH_ROOM = MAX_WORKERS ** 2 + 8
 
-# The words of a sheet that there are to lend.
-SHEET_ROOM = 3 * MAX_WORKERS + 8
-
-# What each word to write over holds: a number over every event count, and of a sheet one over every sum.
+# What each word to write over holds: a number over every event count.
 FILLER = 900000
-SHEET_FILLER = 2 ** 64 - 1
 
 # The totals that there are, and the words that a test has for its answer.
 ALL_TOTALS = 5
@@ -99,8 +88,8 @@ FOR_ANSWER = 8
 ROOM = 65536
 SHOWN = 10000
 
-# The kinds of words: of a cut, a line or a plan; scratch; positions; answers; totals, or those of a sheet. The last kind is the bytes of
-# a log that is written.
+# The kinds of words: of a cut, a line or a plan; scratch; positions; answers; totals. The last kind is the bytes of a log that is
+# written.
 # The ways with just enough, with no byte, with 8 more than needed, and with one too few of each kind.
 OF_CUT, OF_SCRATCH, OF_POSITIONS, OF_ANSWERS, OF_TOTALS, OF_BYTES = range(6)
 ENOUGH, NO_BYTE, MORE, FEW = range(6, 10)
@@ -131,11 +120,7 @@ TABLES = (
 )
 FOR_TABLE = (0, 11, 12, 20)
 
-# The list of a sheet in each way: o is the case's breakpoint, f the first event of the log and l the last one; where - stands the last
-# word is left out.
-LISTED = ("oof", "ol", "oofl", "", "olo", "fol", "o", "oo-", "lofo", "o")
-
-# The first lines with changed words, of a list, of the tables, of lost starts, of scratch and of sheets; the changes.
+# The first lines with changed words, of a list, of the tables, of lost starts and of scratch; the changes.
 CHANGED = FEW + 1
 CHANGES = (1, 65536, 4294967295)
 LISTS = CHANGED + len(CHANGES)
@@ -143,12 +128,8 @@ PATTERNS = range(4)
 BY_TABLE = LISTS + len(PATTERNS)
 LOST = BY_TABLE + 1
 BY_SCRATCH = LOST + MAX_WORKERS
-BY_LIST = BY_SCRATCH + 1
 
 NO_WORKER = 4294967295
-
-# A call of `sheet`: the words of its list, how many words are lent for the sheet, how many of scratch, and the unit table.
-Sheet = namedtuple("Sheet", "words lent scratch table")
 
 
 def case_of(content):
@@ -177,23 +158,6 @@ def lent(needed, kind, way):
 def scratch_lengths(n):
     """Numbers of scratch words: none, one, and those about a row, two rows, and a row for each worker."""
     return sorted({0, 1, n - 1, n, 2 * n - 1, 2 * n, 2 * n + 1, n * n - 1, n * n, n * n + 1})
-
-
-def first_and_last(log):
-    """The first event of the log and the last one, each by its worker and its index; none where the log is refused or has no events."""
-    every = [] if reference.refusal(log) else reference.read(log).every_event()
-    return (every[0], every[-1]) if every else ((), ())
-
-
-def words_of(own, first, last, letters):
-    """The words of a list that is given as in LISTED."""
-    words = [word for letter in letters.rstrip("-") for word in {"o": own, "f": first, "l": last}[letter]]
-    return words[:-1] if letters.endswith("-") else words
-
-
-def sheet_label(sheet):
-    shown = sheet.words if len(sheet.words) <= 12 else "%d words" % len(sheet.words)
-    return "list %s, %d words and %d of scratch, " % (shown, sheet.lent, sheet.scratch)
 
 
 def worker_numbers(pattern, n, count):
@@ -225,7 +189,7 @@ class Calls:
     """The entries of a case as they are added, and the labels of those that are actions, for show.py."""
 
     def __init__(self, content, extra):
-        self.log, self.worker, self.event = case = case_of(content)
+        self.log, self.worker, _ = case = case_of(content)
         self.n = size(self.log)
         self.words = Words(case, self.n)
         self.numbers = [FILLER] * SIZE
@@ -250,10 +214,6 @@ class Calls:
         if BY_SCRATCH in extra:
             self.begin(BY_SCRATCH)
             self.add_scratch()
-        if BY_LIST in extra:
-            self.begin(BY_LIST)
-            for sheet in extra[BY_LIST]:
-                self.add_sheet(sheet)
 
     def put(self, place, values):
         """The entries that change what is at the places from this one on."""
@@ -299,7 +259,6 @@ class Calls:
         self.make("steps")
         for name in ("pack", "intervals"):
             self.add_writer(name, way)
-        self.add_short_list(way)
 
     def add_tests(self, way):
         self.put(READ_AT, self.words.cut)
@@ -327,21 +286,6 @@ class Calls:
         self.put_list(way, count)
         self.lend(POSITIONS, self.n, OF_POSITIONS, way)
         self.lend(ANSWERS, count * (self.n + 1), OF_ANSWERS, way)
-
-    def add_short_list(self, way):
-        """The sheet of the list of a way."""
-        words = words_of((self.worker, self.event), *first_and_last(self.log), LISTED[way])
-        lent_words = lent(3 * self.n, OF_TOTALS, way)
-        scratch = lent(reference.sheet_scratch(self.n), OF_SCRATCH, way)
-        self.add_sheet(Sheet(words, lent_words, scratch, IN_WAY[way]))
-
-    def add_sheet(self, sheet):
-        self.put(LIST_AT, sheet.words)
-        self.put(LIST, [len(sheet.words)])
-        self.put(SHEET, [sheet.lent])
-        self.put(SCRATCH, [sheet.scratch])
-        self.put_table(sheet.table)
-        self.make("sheet", 0, sheet_label(sheet))
 
     def add_writer(self, name, way):
         length = written_length(self.log, name)
@@ -425,7 +369,7 @@ class Calls:
 
 
 def entries_of(content, extra):
-    """The entries of a case, each a place and a value. extra: those of the lines of some cases that it has, with what each is made of."""
+    """The entries of a case, each a place and a value. extra: those of the lines of some cases that it has."""
     return Calls(content, extra).entries
 
 

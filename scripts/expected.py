@@ -7,8 +7,8 @@ after = what it returned:
 
 A changed word has its kind, its number and what it holds after the call. The kinds are w, of a line, a cut or a plan, the
 answer of a test, positions after steps, or the built-in table, whose call is `built_in`; p, positions, and a, answers, of a list
-of steps; h, a sheet; s, scratch, of a call that is refused, and g, the words behind it, of any other: after a success what is lent is
-free. The lower cut, the plan and `restore`, which is `restore_and_replay`, have their totals; 999 is one not written. So do `pack` and
+of steps; s, scratch, of a call that is refused, and g, the words behind it, of any other: after a success what is lent is free. The
+lower cut, the plan and `restore`, which is `restore_and_replay`, have their totals; 999 is one not written. So do `pack` and
 `intervals`, whose total is the bytes written; before it stand the bytes after `out:`, in hexadecimal, where one of them was changed:
 those lent and PAST more. A byte not written is a5.
 """
@@ -16,7 +16,7 @@ those lent and PAST more. A byte not written is a5.
 import reference
 from calls import (
     ALL_TOTALS, ANSWERS, ANSWERS_AT, BYTES, FILLER, LINE, LIST, LIST_AT, NAMES, POSITIONS, READ, READ_AT, ROOM, SCRATCH,
-    SCRATCH_ROOM, SHEET, SHEET_FILLER, SHEET_ROOM, SIZE, TABLE, TABLE_AT, TOTALS, WRITTEN, WRITTEN_AT, case_of, entries_of)
+    SCRATCH_ROOM, SIZE, TABLE, TABLE_AT, TOTALS, WRITTEN, WRITTEN_AT, case_of, entries_of)
 
 UNTOUCHED = 999
 
@@ -118,12 +118,6 @@ class Made:
             positions, answers, self.part_of_totals())
         replayed = changes("p", positions, after) + changes("a", answers, left)
         return number, replayed + changes("w", words, plan) + totals_text(totals)
-
-    def sheet(self, _):
-        lent = [SHEET_FILLER] * min(self.numbers[SHEET], SHEET_ROOM)
-        number, after = reference.sheet_call(
-            self.log, self.part(LIST, LIST_AT), self.part(TABLE, TABLE_AT), lent, self.scratch())
-        return number, changes("h", lent, after)
 
     def writer(self, call):
         lent = GUARD * min(self.numbers[BYTES], ROOM)

@@ -6,18 +6,17 @@
 
 A case file is an input of the program `plan`: worker, event, then the log. Each case below states its name, the number
 by which document 01, "Refused by the input", or document 02, form 2, refuses its log (0: accepted), and the log. The number
-is written by hand, and reference.py must give the same. So are the covering sets, where a case states them, and what each sheet
-that is added to a case gives. The interval log of each accepted log, of one that 28 refuses too, is held to document 02, note 9: its
-least closed cut for each event has the receives within the event's lower cut. Of a log of more than 500 events only the case's
-breakpoint is tried. The calls are those of calls.py, the expected output is that of expected.py.
+is written by hand, and reference.py must give the same. So are the covering sets, where a case states them. The interval log of
+each accepted log, of one that 28 refuses too, is held to document 02, note 9: its least closed cut for each event has the receives
+within the event's lower cut. Of a log of more than 500 events only the case's breakpoint is tried. The calls are those of calls.py,
+the expected output is that of expected.py.
 """
 
 import os
 import sys
 
 import reference
-from calls import (
-    BUILT_IN, BY_LIST, BY_SCRATCH, BY_TABLE, IDENTIFIERS, ONES, RISING, SHEET_FILLER, THOUSANDS, Sheet, case_of, listed, with_first)
+from calls import BUILT_IN, BY_SCRATCH, BY_TABLE, IDENTIFIERS, ONES, RISING, THOUSANDS, case_of, listed
 from expected import case_lines
 from logs import Worker, build, case_file, cut_to, extended, in_form, packed, tube
 from reference import MARK, MAX_WORKERS
@@ -1503,160 +1502,9 @@ WITH_SCRATCH = (
 assert all(name in CONTENT for name in WITH_SCRATCH)
 
 
-# ---- The yearbook sheet: "From a list of up to 1,024 breakpoints, each two words, worker and event, report for each worker the replayed
-# events and units summed over the list, and the number of plans that replay at least one event of it". Every case has sheets of short
-# lists; these are the lists that some of them have besides.
-
-SHEETS = {}
-
-
-def add_sheet(name, words, wanted, more=0, more_scratch=0, table=BUILT_IN):
-    """One more sheet on the log of a case, of this list of words. It is lent so many words more than needed for the sheet, and so many
-    more of scratch. What it gives was worked out by hand: the number by which it is refused, or the words of the sheet."""
-    log, _, _ = case_of(CONTENT[name])
-    n = 1 if reference.refusal(log) else reference.read(log).n
-    made = Sheet(words, 3 * n + more, 5 * n + more_scratch, table)
-    number, after = reference.sheet_call(log, made.words, table, [SHEET_FILLER] * made.lent, made.scratch)
-    found = number if number else after[:3 * n]
-    assert found == wanted, "%s: the sheet of %r is %r by the reference" % (name, words[:12], found)
-    SHEETS.setdefault(name, []).append(made)
-
-
-def times(words, count):
-    """The words of a sheet, each so many times as large."""
-    return [count * word for word in words]
-
-
-# by hand, of the tube log: the plan of each event. Event 1/1, like 2/2, starts at its cut and replays nothing; the plan of 0/1 has no
-# event of worker 0, which starts at its cut, and none of worker 1, which has none within the cut
-TUBE_PLANS = {
-    (0, 1): [0, 0, 0, 0, 0, 0, 1, 2, 1], (0, 2): [1, 5, 1, 2, 6, 1, 2, 4, 1], (0, 3): [2, 7, 1, 2, 6, 1, 2, 4, 1],
-    (1, 1): [0] * 9, (1, 2): [0, 0, 0, 1, 4, 1, 2, 4, 1], (1, 3): [0, 0, 0, 2, 6, 1, 2, 4, 1], (1, 4): [2, 7, 1, 3, 10, 1, 2, 4, 1],
-    (2, 1): [0, 0, 0, 0, 0, 0, 1, 2, 1], (2, 2): [0] * 9, (2, 3): [0, 0, 0, 1, 2, 1, 1, 3, 1],
-}
-for at, wanted in TUBE_PLANS.items():
-    add_sheet("tube_log", list(at), wanted)
-# a breakpoint listed twice counts twice, in each column; one that replays nothing counts nowhere
-add_sheet("tube_log", [0, 2, 0, 2, 1, 1], [2, 10, 2, 4, 12, 2, 4, 8, 2])
-add_sheet("tube_log", [1, 4, 0, 3, 2, 3], [4, 14, 2, 6, 18, 3, 5, 11, 3])
-# "an empty list gives zeros": it is judged by what else is lent, and by the table
-add_sheet("tube_log", [], [0] * 9)
-add_sheet("tube_log", [], 14, more=-1)
-add_sheet("tube_log", [], 15, more_scratch=-1)
-add_sheet("tube_log", [], 27, table=BUILT_IN[:11])
-# every event, then in reverse order, and the two halves of it: their words add up to those of the whole
-EVERY = [word for at in TUBE_PLANS for word in at]
-EVERY_SUM = [5, 19, 3, 11, 34, 6, 13, 27, 8]
-HALF_SUMS = [3, 12, 2, 5, 16, 3, 7, 14, 4], [2, 7, 1, 6, 18, 3, 6, 13, 4]
-assert EVERY_SUM == [a + b for a, b in zip(*HALF_SUMS)] == [sum(words) for words in zip(*TUBE_PLANS.values())]
-add_sheet("tube_log", EVERY, EVERY_SUM)
-add_sheet("tube_log", [word for at in reversed(TUBE_PLANS) for word in at], EVERY_SUM)
-add_sheet("tube_log", EVERY[:10], HALF_SUMS[0])
-add_sheet("tube_log", EVERY[10:], HALF_SUMS[1])
-
-# 29: "an odd number of words or more than 2,048", of breakpoints of the log, and of a list whose first one is bad: it is given before 12
-for count, wanted in ((1, 29), (3, 29), (2047, 29), (2048, times(TUBE_PLANS[0, 2], 1024)), (2049, 29), (2050, 29)):
-    add_sheet("tube_log", ([0, 2] * 1025)[:count], wanted)
-for count, number in ((3, 29), (2047, 29), (2048, 12), (2049, 29), (2050, 29)):
-    add_sheet("tube_log", ([3, 1] + [0, 2] * 1024)[:count], number)
-# the longest list, of every event in turn 102 times and then of the first four
-add_sheet("tube_log", EVERY * 102 + EVERY[:8], [513, 1950, 308, 1126, 3480, 614, 1331, 2764, 819])
-
-# "A bad breakpoint refuses the whole list by 12 or 13, the earliest in the list deciding": alone, behind a good one, before one, and
-# both numbers in one list. Of one breakpoint 12 comes first.
-for words, number in (
-    ([3, 1], 12), ([3, 0], 12), ([4294967295, 4294967295], 12), ([0, 0], 13), ([0, 4], 13), ([1, 5], 13), ([2, 4294967295], 13),
-    ([0, 2, 3, 1], 12), ([3, 1, 0, 2], 12), ([0, 2, 0, 4], 13), ([0, 4, 0, 2], 13),
-    ([0, 0, 3, 1], 13), ([3, 1, 0, 0], 12), ([0, 2, 2, 4, 3, 1], 13), ([0, 2, 3, 1, 2, 4], 12),
-):
-    add_sheet("tube_log", words, number)
-# the last of 1,024 is bad, or the first two are
-add_sheet("tube_log", [0, 2] * 1023 + [3, 1], 12)
-add_sheet("tube_log", [0, 2] * 1023 + [0, 4], 13)
-add_sheet("tube_log", [0, 0, 3, 1] + [0, 2] * 1022, 13)
-
-# 27 comes last: where another number applies too, that one is given. So are 14 before 15, 12 and 13 before 14, and 29 before these
-for words, more, more_scratch, number in (
-    ([0, 2], 0, 0, 27), ([0, 2], 0, -1, 15), ([0, 2], -1, 0, 14), ([0, 2], -1, -1, 14),
-    ([0, 4], 0, 0, 13), ([3, 1], 0, 0, 12), ([0, 2, 0], 0, 0, 29), ([0, 2] * 1025, 0, 0, 29),
-    ([0, 4], -1, -1, 13), ([3, 1], -1, -1, 12), ([3, 1, 0], -9, -15, 29),
-):
-    add_sheet("tube_log", words, number, more, more_scratch, with_first(0))
-# a table of another length, and with a word over 1,000; the largest units
-add_sheet("tube_log", [0, 2], 27, table=[])
-add_sheet("tube_log", [0, 2], 27, table=BUILT_IN + [1])
-add_sheet("tube_log", [0, 2], 27, table=with_first(1001))
-add_sheet("tube_log", [0, 2, 0, 2, 1, 1], [2, 2000, 2, 4, 4000, 2, 4, 4000, 2], table=THOUSANDS)
-
-# the log's number is given before 29, 12, 13, 14, 15 and 27: 2, 11 and 24
-for name, number in (("form_0", 2), ("11_before_the_breakpoint", 11), ("a_send_received_twice_in_form_2", 24)):
-    for words in ([], [0, 1], [9, 0], [0]):
-        add_sheet(name, words, number)
-        add_sheet(name, words, number, more=-3, more_scratch=-5, table=[])
-
-# one worker has no events: the empty list is its only one. It too needs 5 words of scratch, although its plan needs one
-for name in ("header_is_the_log_of_1_worker", "checkpoints_of_one_worker"):
-    for more, more_scratch, wanted in ((0, 0, [0, 0, 0]), (1, 1, [0, 0, 0]), (0, -1, 15), (0, -3, 15), (0, -4, 15), (-1, 0, 14)):
-        add_sheet(name, [], wanted, more, more_scratch)
-    add_sheet(name, [0, 1], 13)
-    add_sheet(name, [0, 0], 13)
-    add_sheet(name, [1, 1], 12)
-    add_sheet(name, [0], 29)
-
-# one word fewer than needed, just enough and one more, of the sheet and of scratch, where n is 2, 3 and 64. By hand: of the two workers
-# the plan of 0/2 replays every event, and that of 1/1 events 0/1 and 1/1. Of the 64 the plan of w/2 replays that receive and the send of
-# the worker before; here w is 0 and the worker before it the last one
-FOR_LENGTHS = (
-    ("two_workers", [0, 2, 1, 1], [3, 7, 2, 3, 10, 2]),
-    ("tube_log", [0, 2], TUBE_PLANS[0, 2]),
-    ("sixty_four_workers_with_events", [0, 2], [1, 3, 1] + [0] * (3 * MAX_WORKERS - 6) + [1, 2, 1]),
-)
-for name, words, wanted in FOR_LENGTHS:
-    for more in (-1, 0, 1):
-        for more_scratch in (-1, 0, 1):
-            add_sheet(name, words, 14 if more < 0 else 15 if more_scratch < 0 else wanted, more, more_scratch)
-
-# every event of the 64 workers, in both orders: each worker replays its receive in one plan and its send in another, of 3 + 2, 4 + 2,
-# 8 + 3 and 5 + 2 units by its role
-EACH_TWICE = [word for w in range(MAX_WORKERS) for word in (2, (5, 6, 11, 7)[w % 4], 2)]
-OF_64 = [[w, x] for w in range(MAX_WORKERS) for x in (1, 2)]
-add_sheet("sixty_four_workers_with_events", sum(OF_64, []), EACH_TWICE)
-add_sheet("sixty_four_workers_with_events", sum(reversed(OF_64), []), EACH_TWICE)
-# the longest list: each of them 8 times
-add_sheet("sixty_four_workers_with_events", sum(OF_64, []) * 8, times(EACH_TWICE, 8))
-# worker 64 is none of 64, and the last one has no event 3
-add_sheet("sixty_four_workers_with_events", [LAST, 2, MAX_WORKERS, 1, LAST, 3], 12)
-add_sheet("sixty_four_workers_with_events", [LAST, 2, LAST, 3, MAX_WORKERS, 1], 13)
-
-# starts that are lowered in one plan and not in the next. By hand, from the starts of the case: the plan of 0/2 replays the receive of
-# worker 0, the last two events of each other one, and both of the last, whose receive has its data. In the plans of 0/1 and 63/2 every
-# worker starts at its cut, and that of 63/1 replays this event alone
-add_sheet("each_of_64_lowered_once", [0, 2, LAST, 2, LAST, 1, 0, 1, 0, 2],
-    [2, 6, 2] + [word for w in range(1, LAST) for word in (4, 2 * (5, 6, 11, 7)[w % 4], 2)] + [5, 25, 3])
-
-# worker 2 of three has no events at all
-add_sheet("empty_events_at_the_header_end", [0, 2, 1, 1], [3, 7, 2, 3, 10, 2, 0, 0, 0])
-add_sheet("empty_events_at_the_header_end", [0, 2, 2, 1], 13)
-# in the plan of 2/2 every worker starts at its cut; in that of 2/1 worker 0 does, worker 1 replays a send and worker 2 a receive
-add_sheet("covering_set_at_the_cut", [2, 2], [0] * 9)
-add_sheet("covering_set_at_the_cut", [2, 2, 2, 1, 2, 2], [0, 0, 0, 1, 2, 1, 1, 8, 1])
-# no event of worker 0 is within the cut of 1/3, and worker 1 replays two sends; in the plan of 0/2 both start at their cuts
-add_sheet("kind_byte_1", [1, 3, 0, 2, 1, 3], [0, 0, 0, 4, 12, 2])
-
-# a withdrawn checkpoint is no start: the plans of 1/4, 2/3 and 0/2 replay worker 1 from its initial state
-add_sheet("tube_log_with_a_withdrawn_checkpoint", [1, 4, 2, 3, 0, 2], [3, 12, 2, 8, 26, 3, 1, 5, 1])
-# the same words: in form 1 worker 0 starts at the checkpoint of its second event, in form 2 at the one before
-add_sheet("identifier_with_the_top_bit_in_form_1", [1, 1, 1, 2], [1, 2, 1, 3, 16, 2])
-add_sheet("identifier_with_the_top_bit_in_form_2", [1, 1, 1, 2], [3, 6, 2, 3, 16, 2])
-
-# the sum of the units needs 33 bits: 1,024 times 5,454 events of 1,000 units in worker 1, and two in worker 0
-add_sheet("receives_far_apart", [1, 5454] * 1024, times([2, 2000, 1, 5454, 5454000, 1], 1024), table=THOUSANDS)
-
-
 def extra(name):
-    """The lines that the case has and not every case, each with what it is made of besides the case."""
-    lines = {line: () for line, names in ((BY_TABLE, WITH_TABLES), (BY_SCRATCH, WITH_SCRATCH)) if name in names}
-    return {**lines, BY_LIST: SHEETS[name]} if name in SHEETS else lines
+    """The lines that the case has and not every case."""
+    return {line for line, names in ((BY_TABLE, WITH_TABLES), (BY_SCRATCH, WITH_SCRATCH)) if name in names}
 
 
 def files():

@@ -1,12 +1,12 @@
 #!/usr/bin/env python3
-"""Document 01, and form 2, the packed logs, the covering test, the withdrawn checkpoints, the unit tables, the interval logs and the
-yearbook sheet of document 02, written in Python from the definitions. The expected output of the stored cases comes from here.
+"""Document 01, and form 2, the packed logs, the covering test, the withdrawn checkpoints, the unit tables and the interval logs of
+document 02, written in Python from the definitions. The expected output of the stored cases comes from here.
 
     scripts/reference.py --check    the values T1 to T10, and on random small logs the definitions against brute force, the
                                     floor that covering sets give the starts (document 02, note 4), logs with withdrawn
                                     checkpoints (note 6) against the same logs without these records, plans with several
-                                    unit tables (note 7) against every rival, the least closed cuts of interval logs
-                                    (note 9) against the lower cuts, and sheets (note 10) against the single plans
+                                    unit tables (note 7) against every rival, and the least closed cuts of interval logs
+                                    (note 9) against the lower cuts
 
 An event is named by its worker and its index, (w, x). Interval k of a worker is its state after k of its receives. A cut, an
 interval cut, a choice's starts and positions are lists of one number for each worker.
@@ -31,10 +31,9 @@ MARK = 2 ** 31
 # The form of an interval log. No call accepts it.
 INTERVAL_FORM = 3
 
-# The largest worker count of a log, and its most bytes; the most words of a list of breakpoints.
+# The largest worker count of a log, and its most bytes.
 MAX_WORKERS = 64
 MAX_BYTES = 4194304
-MAX_LISTED = 2048
 
 # Units of an event by role, for kinds 1, 2 and 3; and the same as a unit table of 12 words, role by role.
 UNITS = {0: (2, 3, 5), 1: (2, 4, 6), 2: (3, 8, 9), 3: (2, 5, 7)}
@@ -434,14 +433,12 @@ def by_role(table):
     return {0: first, 1: second, 2: third, 3: fourth}
 
 
-def worker_units(log, table, cut, starts, w):
-    """The units of the replayed events of worker w."""
-    units = by_role(table)[log.roles[w]]
-    return sum(units[event.kind - 1] for event in log.events[w][starts[w]:cut[w]])
-
-
 def units_of(log, table, cut, starts):
-    return sum(worker_units(log, table, cut, starts, w) for w in range(log.n))
+    units = by_role(table)
+    return sum(
+        units[log.roles[w]][event.kind - 1]
+        for w in range(log.n) for event in log.events[w][starts[w]:cut[w]]
+    )
 
 
 def set_indices(log, identifier):
@@ -463,29 +460,6 @@ def covers(log, identifier):
         for w in range(log.n) for event in log.events[w][index[w]:]
         if is_receive(event) and event.send <= index[event.peer]
     )
-
-
-# ---- The yearbook sheet
-
-
-@functools.lru_cache(maxsize=None)
-def figures(log, table, i, e):
-    """What the plan of event e of worker i adds to a sheet: for each worker in order its replayed events, their units, and 1 where
-    there is such an event. Each plan is worked out one time. The table is a tuple."""
-    cut, _ = figure2(log, i, e)
-    starts = plan_starts(log, cut)
-    found = []
-    for w in range(log.n):
-        found += [cut[w] - starts[w], worker_units(log, table, cut, starts, w), int(cut[w] > starts[w])]
-    return tuple(found)
-
-
-def sheet(log, table, breakpoints):
-    """The figures of the plans of a list, summed."""
-    sums = [0] * (3 * log.n)
-    for i, e in breakpoints:
-        sums = [a + b for a, b in zip(sums, figures(log, tuple(table), i, e), strict=True)]
-    return sums
 
 
 # ---- Replay machine
@@ -555,15 +529,6 @@ def intervals_call(data, out, written):
 def check_breakpoint(log, worker, event):
     refuse_if(worker >= log.n, 12)
     refuse_if(not 1 <= event <= log.count(worker), 13)
-
-
-def check_list(log, words):
-    """The breakpoints of a list of words, each of them in the log."""
-    refuse_if(len(words) % 2 == 1 or len(words) > MAX_LISTED, 29)
-    breakpoints = list(zip(words[0::2], words[1::2]))
-    for worker, event in breakpoints:
-        check_breakpoint(log, worker, event)
-    return breakpoints
 
 
 def vector_call(data, worker, event, words):
@@ -641,24 +606,6 @@ def plan_call(data, worker, event, table, words, scratch):
     starts = plan_starts(log, cut)
     new = onto(plan_words(log, cut, starts), words)
     return 0, len(visited), events_of(cut, starts), units_of(log, table, cut, starts), workers_word(cut), new
-
-
-def sheet_scratch(n):
-    """The least scratch of a sheet of n workers."""
-    return 5 * n
-
-
-def sheet_call(data, words, table, lent, scratch):
-    """Refusal, lent words of the sheet. words is the list of breakpoints, scratch the number of scratch words."""
-    try:
-        log = read(data)
-        breakpoints = check_list(log, words)
-        refuse_if(len(lent) < 3 * log.n, 14)
-        refuse_if(scratch < sheet_scratch(log.n), 15)
-        refuse_if(load_table_call(table) != 0, 27)
-    except Refused as refused:
-        return refused.number, lent
-    return 0, onto(sheet(log, table, breakpoints), lent)
 
 
 def covers_call(data, identifier):
@@ -876,49 +823,6 @@ def check_loading():
     for place, units in enumerate((2003, 5, 5, 1004, 1004, 5, 5, 5, 5, 5, 1004, 5)):
         table = [1000 if k == place else 1 for k in range(12)]
         expect("units with word %d" % place, plan_call(logs.tube(), 0, 2, table, [9] * 9, 9)[3], units)
-
-
-# Lists of breakpoints of the tube log and their sheets with the built-in table, worked out by hand. The plan of 0/2 replays 0/2, 1/2,
-# 1/3, 2/1 and 2/2, that of 0/3 also 0/3, that of 1/4 also 0/3 and 1/4, that of 2/3 replays 1/1 and 2/3, and that of 1/1 nothing, since
-# worker 1 starts at its cut.
-TUBE_SHEETS = (
-    ([], [0, 0, 0, 0, 0, 0, 0, 0, 0]),
-    ([1, 1], [0, 0, 0, 0, 0, 0, 0, 0, 0]),
-    ([0, 2], [1, 5, 1, 2, 6, 1, 2, 4, 1]),
-    ([0, 2, 0, 2, 1, 1], [2, 10, 2, 4, 12, 2, 4, 8, 2]),
-    ([2, 3], [0, 0, 0, 1, 2, 1, 1, 3, 1]),
-    ([1, 4, 0, 3, 2, 3], [4, 14, 2, 6, 18, 3, 5, 11, 3]),
-    ([0, 2] * 1024, [1024, 5120, 1024, 2048, 6144, 1024, 2048, 4096, 1024]),
-)
-
-# Lists that are refused on the tube log, and the number: 29 for an odd number of words or more than 2,048, before 12; 12 or 13 of the
-# earliest that is bad, in which 12 comes first.
-TUBE_REFUSED = (
-    ([0], 29), ([0, 2, 1], 29), ([9], 29), ([9, 9, 9], 29), ([0, 0, 1], 29),
-    ([0, 2] * 1023 + [1], 29), ([0, 2] * 1024 + [1], 29), ([0, 2] * 1025, 29), ([9, 9] * 1025, 29),
-    ([3, 1], 12), ([3, 0], 12), ([0, 0], 13), ([0, 4], 13), ([1, 5], 13), ([2, 4], 13),
-    ([3, 1, 0, 0], 12), ([0, 0, 3, 1], 13), ([0, 2, 3, 1, 0, 0], 12), ([0, 2, 0, 4, 3, 1], 13),
-    ([0, 2] * 1023 + [3, 1], 12), ([0, 2] * 1023 + [0, 4], 13),
-)
-
-
-def check_tube_sheets():
-    """Sheets of the tube log, and what they are refused by, one number before the other."""
-    data, lent, bad = logs.tube(), [7] * 10, [0] * 12
-    for words, wanted in TUBE_SHEETS:
-        for more in (0, 1):
-            expect("sheet of %r" % words[:6], sheet_call(data, words, BUILT_IN, lent[:9 + more], 15 + more), (0, wanted + [7] * more))
-        expect("27", sheet_call(data, words, bad, lent, 15), (27, lent))
-        expect("15 before 27", sheet_call(data, words, bad, lent, 14), (15, lent))
-        expect("14 before 15", sheet_call(data, words, bad, lent[:8], 14), (14, lent[:8]))
-    for words, number in TUBE_REFUSED:
-        expect("12, 13 and 29 before 14", sheet_call(data, words, bad, [], 0), (number, []))
-        expect("refused %r" % words[:6], sheet_call(data, words, BUILT_IN, lent, 15), (number, lent))
-        expect("the log's before 29", sheet_call(logs.in_form(data, 3), words, BUILT_IN, lent, 15), (2, lent))
-    # one worker has no events: the empty list is its only one, and its scratch has 5 words too
-    alone = logs.build([logs.Worker()])
-    for words, scratch, wanted in (([], 5, (0, [0, 0, 0, 7])), ([], 4, (15, [7] * 4)), ([0, 1], 5, (13, [7] * 4))):
-        expect("one worker", sheet_call(alone, words, BUILT_IN, [7] * 4, scratch), wanted)
 
 
 def at_checkpoint_alone(log, starts):
@@ -1281,54 +1185,6 @@ def check_tables(log, data, i, e):
     return words
 
 
-def check_sheets(log, data, seed):
-    """Sheets of lists of breakpoints, each with another table, against the single plans: of the empty list, of every event, and of some
-    of them in any order, also again. The value is the number of workers that some plans of the last list replay and others do not."""
-    rng = random.Random(seed)
-    every = log.every_event()
-    lent, scratch = [7] * (3 * log.n), 5 * log.n
-    for k, listed in enumerate(([], every, rng.choices(every, k=8) if every else [])):
-        table = LOADED[(seed + k) % len(LOADED)]
-        words = [word for at in listed for word in at]
-        wanted = single_plans(log, data, listed, table)
-        expect("sheet", sheet_call(data, words, table, lent, scratch), (0, wanted))
-        part = 2 * rng.randint(0, len(listed))
-        halves = [sheet_call(data, half, table, lent, scratch)[1] for half in (words[:part], words[part:])]
-        expect("two halves", [a + b for a, b in zip(*halves)], wanted)
-        check_list_refusals(log, data, listed, rng)
-    return sum(0 < wanted[3 * w + 2] < len(listed) for w in range(log.n))
-
-
-def single_plans(log, data, listed, table):
-    """The sheet from what the plan call gives for each breakpoint: the events from its words, and the units of one worker as those of
-    the plan in which every other worker starts at its cut. The totals are those of the plan calls."""
-    wanted, events, units = [0] * (3 * log.n), 0, 0
-    for i, e in listed:
-        _, _, more_events, more_units, _, words = plan_call(data, i, e, table, [7] * (3 * log.n), 2 * log.n)
-        events, units = events + more_events, units + more_units
-        cut, starts = words[0::3], words[1::3]
-        for w in range(log.n):
-            alone = [starts[v] if v == w else cut[v] for v in range(log.n)]
-            wanted[3 * w] += events_of(cut, alone)
-            wanted[3 * w + 1] += units_of(log, table, cut, alone)
-            wanted[3 * w + 2] += alone != cut
-    expect("events and units of the plans", (sum(wanted[0::3]), sum(wanted[1::3])), (events, units))
-    return wanted
-
-
-def check_list_refusals(log, data, listed, rng):
-    """Two breakpoints at fault in a list: the number is that of the call for the earlier one."""
-    faults = [(log.n, 1), (2 ** 32 - 1, 0)] + [(w, x) for w in range(log.n) for x in (0, log.count(w) + 1)]
-    lent = [7] * (3 * log.n)
-    mixed = list(listed)
-    for fault in rng.sample(faults, 2):
-        mixed.insert(rng.randint(0, len(mixed)), fault)
-    words = [word for at in mixed for word in at]
-    number = next(number for number, _ in (vector_call(data, i, e, lent) for i, e in mixed) if number != 0)
-    expect("the earliest", sheet_call(data, words, BUILT_IN, lent, 5 * log.n), (number, lent))
-    expect("29 before it", sheet_call(data, words[:-1], BUILT_IN, lent, 5 * log.n), (29, lent))
-
-
 def every_identifier(log):
     """0 and the identifiers that are recorded."""
     return sorted({c.identifier for w in range(log.n) for c in offered(log, w)})
@@ -1374,7 +1230,6 @@ def every_call(data, n, worker, event, lent):
         cut_test_call(data, words),
         cut_test_call(data, plan[0:3 * n:3]),
         plan_call(data, worker, event, table, words, lent),
-        sheet_call(data, [worker, event] * (event % 3), table, words, lent),
         covers_call(data, event),
         step_call(data, plan, positions, worker),
         steps_call(data, plan, positions, workers, words),
@@ -1413,9 +1268,9 @@ def check_forms(data):
 
 def check_random(logs_tried):
     """The number of logs with two receives of one send, of those that 28 refuses, of those that it does not refuse and in which a
-    receive names an interval above 0, of breakpoints tried, of those whose latest checkpoints are no plan, and of workers that some plans
-    of a sheet replay and others do not; and the counts of check_floor."""
-    repeats = crowded = named = tried = lowered = some = 0
+    receive names an interval above 0, of breakpoints tried, and of those whose latest checkpoints are no plan; and the counts of
+    check_floor."""
+    repeats = crowded = named = tried = lowered = 0
     floor = Counter()
     for seed, form in itertools.product(range(logs_tried), FORMS):
         workers = random_workers(seed, form)
@@ -1427,7 +1282,6 @@ def check_random(logs_tried):
         repeats += check_forms(data)
         log = read(data)
         check_closed_cuts(log, interval_bytes(data))
-        some += check_sheets(log, data, seed)
         for identifier in range(8):
             check_covering(log, identifier)
         for i, e in log.every_event():
@@ -1438,7 +1292,7 @@ def check_random(logs_tried):
             cut, _ = figure2(log, i, e)
             tried += 1
             lowered += plan_starts(log, cut) != latest_starts(log, cut)
-    return repeats, crowded, named, tried, lowered, some, floor
+    return repeats, crowded, named, tried, lowered, floor
 
 
 def check_random_sets(logs_tried):
@@ -1482,7 +1336,6 @@ def check_random_withdrawn(logs_tried):
         expect("the mark is packed", packed(log) == packed(read(unmarked)), data == unmarked)
         some += data != unmarked
         enough = log.n * log.n + 3 * (log.n + 1)
-        check_sheets(log, data, seed)
         for i, e in log.every_event():
             check_plan(log, data, i, e)
             check_floor(log, i, e)
@@ -1506,18 +1359,16 @@ def check():
     check_limit()
     check_interval_limit()
     check_loading()
-    check_tube_sheets()
-    repeats, crowded, named, tried, lowered, some, floor = check_random(400)
+    repeats, crowded, named, tried, lowered, floor = check_random(400)
     covering, at_checkpoint, more = check_random_sets(400)
     floor += more
     withdrawn, moved, freed = check_random_withdrawn(400)
-    assert withdrawn > 0 and moved > 0 and 100 < crowded < 700 and named > 20 and freed > 100 and some > 400
+    assert withdrawn > 0 and moved > 0 and 100 < crowded < 700 and named > 20 and freed > 100
     assert all(floor[count] > 0 for count in FLOOR), floor
     print("T1 to T10; %d breakpoints of 400 logs of each form, %d of them with starts below the latest" % (tried, lowered))
     print("each log in both forms, %d of them with two receives of one send; packed, also from sections in any order" % repeats)
     print("the interval log of each, %d of them refused by 28, in %d of the others a receive names an interval above 0; its least "
         "closed cut for every breakpoint" % (crowded, named))
-    print("sheets of lists of each log, with several tables; %d times some plans of a list replay a worker and others do not" % some)
     print("2400 sets, %d of them cover, %d do not because of sends at the checkpoint alone" % (covering, at_checkpoint))
     print("%d logs with withdrawn checkpoints, and each without these records; at %d breakpoints some answer is another one than with "
         "none withdrawn, and %d logs are converted that 28 would refuse then" % (withdrawn, moved, freed))

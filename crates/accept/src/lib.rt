@@ -1,4 +1,5 @@
 // Every log is accepted, or refused by the first number of 1 to 11 and 24 that applies.
+#![tactic(auto)]
 
 ghost use Rattle.std.specs.Prelude.{◌≡◌};
 ghost use Rattle.event_log.specs.Header.{layout_refusal};

@@ -1,4 +1,5 @@
 // Lists of breakpoints: two words each, worker and event.
+#![tactic(auto)]
 
 ghost use Rattle.std.specs.Prelude.{◌≡◌, ◌+◌, ◌*◌, ◌≤◌, length};
 ghost use Rattle.event_log.specs.Header.{layout_refusal};

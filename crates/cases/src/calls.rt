@@ -1,15 +1,15 @@
 // The calls on the numbers given. Each function prints the words or bytes that its call changes, and gives what the call returned.
 
 use super::numbers::{
-    ANSWERS_AT, FILLER, LINE, LIST_AT, READ_AT, ROOM, SCRATCH_ROOM, SHEET_FILLER, SHEET_ROOM, SIZE,
-    TABLE_AT, WRITTEN_AT, part, wide,
+    ANSWERS_AT, FILLER, LINE, LIST_AT, READ_AT, ROOM, SCRATCH_ROOM, SIZE, TABLE_AT, WRITTEN_AT,
+    part, wide,
 };
 use super::text::{GUARD, PAST, TOTALS, UNTOUCHED, print_changes};
 use super::{numbers, text};
 use std::io;
 use std::io::Write;
 
-// The numbers of the calls. Those from 15 to 23 are free.
+// The numbers of the calls. Those from 14 to 23 are free.
 const LOG_REFUSAL: usize = 0;
 
 const VECTOR: usize = 1;
@@ -37,8 +37,6 @@ const LOAD_TABLE: usize = 11;
 const BUILT_IN: usize = 12;
 
 const INTERVALS: usize = 13;
-
-const SHEET: usize = 14;
 
 // The calls that write words of one kind; a number that is free makes none. `value` is the worker, or the identifier of a covering set.
 fn run_one<W: Write>(
@@ -177,26 +175,6 @@ fn run_restore<W: Write>(
     Ok(number)
 }
 
-// The sheet of a list of breakpoints.
-fn run_sheet<W: Write>(out: &mut W, log: &[u8], given: [u32; SIZE]) -> io::Result<u32> {
-    let mut list = given;
-    let mut loaded = given;
-    let mut sheet = [SHEET_FILLER; SHEET_ROOM];
-    let mut scratch = [FILLER; SCRATCH_ROOM];
-    let breakpoints = part(&mut list, numbers::LIST, LIST_AT);
-    let table = part(&mut loaded, numbers::TABLE, TABLE_AT);
-    let number = planner::sheet(
-        log,
-        breakpoints,
-        table,
-        numbers::part_of_sheet(&mut sheet, given),
-        numbers::part_of_scratch(&mut scratch, given),
-    );
-    text::print_sheet(out, &sheet)?;
-    print_scratch(out, number, given, &scratch)?;
-    Ok(number)
-}
-
 // Packing, or the conversion to an interval log.
 fn write_log(log: &[u8], is_pack: bool, out: &mut [u8], written: &mut [u64]) -> u32 {
     if is_pack {
@@ -246,7 +224,6 @@ pub(crate) fn run_entry<W: Write>(
             RESTORE => run_restore(out, log, event, given, value)?,
             PACK => run_writer(out, log, given, true)?,
             INTERVALS => run_writer(out, log, given, false)?,
-            SHEET => run_sheet(out, log, given)?,
             _ => run_one(out, log, event, given, call, value)?,
         };
         text::print_byte(out, b' ')?;

@@ -1,5 +1,5 @@
 // The numbers that a call is given, in one array: how many words, or bytes, are lent of each kind, the words that it reads, and those that it
-// writes over. Scratch has an array of its own, and so have the 64-bit words of a sheet. `scripts/calls.py` has the same places.
+// writes over. Scratch has an array of its own. `scripts/calls.py` has the same places.
 
 ghost use Rattle.std.specs.Prelude.{◌<◌, ◌≤◌, length};
 
@@ -15,7 +15,8 @@ pub const ENTRIES: usize = LINE + 1;
 
 // The places of the counts. READ: the words of a cut or a plan that a call reads. WRITTEN: those that it writes, of a line, a cut or a plan,
 // the answer of a test, the positions of a step, or the built-in table. Then scratch, the positions and answers of a list of steps, totals,
-// bytes, the list, the unit table, the bytes of a file and of a name, and the sheet. The places from 25 to 31 and from 44 to 63 are free.
+// bytes, the list, the unit table, and the bytes of a file and of a name. The places from 25 to 31 and from 43 to 63 are
+// free.
 pub const READ: usize = 32;
 
 pub const WRITTEN: usize = 33;
@@ -37,8 +38,6 @@ pub const TABLE: usize = 40;
 pub const FILE: usize = 41;
 
 pub const NAME: usize = 42;
-
-pub const SHEET: usize = 43;
 
 // The first places of the words that are read, of the list, of the unit table, of the file, of the name, of the words that are written, and
 // of the answers of a list, which are beyond the positions. The list has 2,050 words. The file and the name, 4 bytes to a word, have 512 and
@@ -63,11 +62,6 @@ pub const SIZE: usize = ANSWERS_AT + 32 * (event_log::MAX_WORKERS + 1) + 8;
 // The words of scratch that there are to lend: n × n, and 8 more. A call that lends more needs this number raised, here and in
 // `scripts/calls.py`.
 pub const SCRATCH_ROOM: usize = event_log::MAX_WORKERS * event_log::MAX_WORKERS + 8;
-
-// The words of a sheet that there are to lend, 8 more than the largest log needs, and what each holds before a call: a number over every sum.
-pub const SHEET_ROOM: usize = 3 * event_log::MAX_WORKERS + 8;
-
-pub const SHEET_FILLER: u64 = 18446744073709551615;
 
 // The bytes that there are to lend.
 pub const ROOM: usize = 65536;
@@ -108,11 +102,6 @@ fn first_wide(words: &mut [u64], count: usize) -> &mut [u64] {
 // The totals to lend: as many as stand at place TOTALS, or as there are.
 pub(crate) fn part_of_totals(totals: &mut [u64], given: [u32; SIZE]) -> &mut [u64] {
     first_wide(totals, wide(given[TOTALS]))
-}
-
-// The words of the sheet to lend: as many as stand at place SHEET, or as there are.
-pub(crate) fn part_of_sheet(sheet: &mut [u64], given: [u32; SIZE]) -> &mut [u64] {
-    first_wide(sheet, wide(given[SHEET]))
 }
 
 // How many bytes are lent: as many as stand at place BYTES, or as there are.

@@ -2,7 +2,7 @@
 
 ghost use Rattle.std.specs.Prelude.{◌<◌};
 
-use super::numbers::{CALLS, FILLER, SHEET_FILLER, SIZE};
+use super::numbers::{CALLS, FILLER, SIZE};
 use std::io;
 use std::io::Write;
 
@@ -18,7 +18,7 @@ pub const PAST: usize = 8;
 
 // The names of the calls, in WIDTH bytes each; the number of a call is its place among them. A number that is free has blanks.
 const NAMES: [u8; CALLS * WIDTH] =
-    *b" log_refusal vector      upper_line  covers      cut_test    step        steps       lower_cut   plan        restore     pack        load_table  built_in    intervals   sheet                                                                                                                  ";
+    *b" log_refusal vector      upper_line  covers      cut_test    step        steps       lower_cut   plan        restore     pack        load_table  built_in    intervals                                                                                                                          ";
 
 const WIDTH: usize = 12;
 
@@ -81,16 +81,6 @@ pub(crate) fn print_scratch_from<W: Write>(
         let word = scratch[k];
         if word != FILLER {
             print_word(out, mark, k - from, word)?;
-        }
-    }
-    Ok(())
-}
-
-// Prints each word of the sheet that is not as before the call, with its number.
-pub(crate) fn print_sheet<W: Write>(out: &mut W, sheet: &[u64]) -> io::Result<()> {
-    for (k, word) in sheet.iter().enumerate() {
-        if *word != SHEET_FILLER {
-            print_wide_word(out, b'h', k, *word)?;
         }
     }
     Ok(())

@@ -1,4 +1,5 @@
 // Dependency vectors and the cut test of a log.
+#![tactic(auto)]
 
 ghost use Rattle.std.specs.Prelude.{◌≡◌, false, [], ◌∷◌, ◌+◌, ◌<◌, ◌≤◌, length, take, replicate};
 ghost use Rattle.ranges.specs.Fold.{any_below, first_from};

@@ -1,4 +1,5 @@
 // The checkpoints that may be chosen, and the sends that a start loses.
+#![tactic(auto)]
 
 ghost use Rattle.std.specs.Prelude.{◌≡◌, ◌≤◌};
 ghost use Rattle.event_log.specs.Layout.{workers_of};

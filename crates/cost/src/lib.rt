@@ -1,4 +1,5 @@
 // The words of a plan, cut, start and identifier for each worker, and its replayed events and their units.
+#![tactic(auto)]
 
 ghost use Rattle.std.specs.Prelude.{◌≡◌, ◌+◌, ◌-◌, ◌*◌, ◌<◌, ◌≤◌, length};
 ghost use Rattle.ranges.specs.Fold.{tabulate};

@@ -1,4 +1,5 @@
 // The test whether the checkpoints with an identifier are a covering set.
+#![tactic(auto)]
 
 ghost use Rattle.std.specs.Prelude.{◌≡◌, false, ◌++◌, ◌<◌, ◌≤◌, length, drop};
 ghost use Rattle.ranges.specs.Fold.{any_below};

@@ -1,4 +1,5 @@
 // One pass over the events of a log for any fault of the tests 7 to 10.
+#![tactic(auto)]
 
 ghost use Rattle.std.specs.Prelude.{◌≡◌, true, false, ℕ, ◌+◌, ◌<◌, ◌≤◌, min, length};
 ghost use Rattle.ranges.specs.Fold.{any_below, max_below};

@@ -1,5 +1,6 @@
 // The interval of a worker at any of its events, from a table of the intervals at every 2^b-th event: a count from the first event for each
 // receive would take events times events.
+#![tactic(auto)]
 
 ghost use Rattle.std.specs.Prelude.{◌≡◌, ◌+◌, ◌*◌, ◌^◌, ◌<◌, ◌≤◌, min, length};
 ghost use Rattle.event_log.specs.Header.{layout_refusal};

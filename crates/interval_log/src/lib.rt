@@ -1,4 +1,5 @@
 // The interval log of an accepted log, written as a packed log is.
+#![tactic(auto)]
 
 ghost use Rattle.std.specs.Prelude.{◌≡◌, ◌+◌, ◌-◌, ◌*◌, ◌≤◌, ◌++◌, length, take};
 ghost use Rattle.ranges.specs.Fold.{join_below};

@@ -1,4 +1,5 @@
 // What the conversion of a log to an interval log refuses: test 28, and the length of the interval log for 26 and 25.
+#![tactic(auto)]
 
 ghost use Rattle.std.specs.Prelude.{◌≡◌, ◌≤◌};
 ghost use Rattle.event_log.specs.Header.{layout_refusal};

@@ -1,4 +1,5 @@
 // State intervals: the interval log of a log, its interval cuts, and the one function that counts intervals.
+#![tactic(auto)]
 
 ghost use Rattle.std.specs.Prelude.{◌≡◌, ◌≤◌};
 ghost use Rattle.event_log.specs.Header.{layout_refusal};

@@ -1,4 +1,5 @@
 // The lower cut of a breakpoint event, with the visits made and the workers word.
+#![tactic(auto)]
 
 mod figure2;
 

@@ -1,4 +1,5 @@
 // The packed log of an accepted log: the same log, with its sections in worker order and without gaps.
+#![tactic(auto)]
 
 ghost use Rattle.std.specs.Prelude.{◌≡◌, ◌+◌, ◌*◌, ◌<◌, ◌≤◌, length, take};
 ghost use Rattle.ranges.specs.Fold.{join_below};

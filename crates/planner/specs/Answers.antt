@@ -12,7 +12,6 @@ use Rattle.lower_cut.specs.Calls.{lower_cut_call}
 use Rattle.upper_line.specs.Calls.{upper_line_call}
 use Rattle.covering.specs.Calls.{covers_call}
 use Rattle.restore_plan.specs.Calls.{plan_call}
-use Rattle.sheet.specs.Calls.{sheet_call}
 use Rattle.replay_machine.specs.Calls.{step_call, steps_call, restore_call}
 
 -- of each call, what it returns and leaves for all that it is asked and lent besides the log
@@ -22,7 +21,6 @@ pub record Answers : Type 0 where
   pub of_upper_line : ℕ → ℕ → List ℕ → Left
   pub of_lower_cut : ℕ → ℕ → List ℕ → ℕ → List ℕ → Left
   pub of_plan : ℕ → ℕ → List ℕ → List ℕ → ℕ → List ℕ → Left
-  pub of_sheet : List ℕ → List ℕ → List ℕ → ℕ → Left
   pub of_cut_test : List ℕ → List ℕ → Left
   pub of_covers : ℕ → List ℕ → Left
   pub of_step : List ℕ → List ℕ → ℕ → Left
@@ -37,7 +35,6 @@ answers_to log =
       of_upper_line = upper_line_call log;
       of_lower_cut = lower_cut_call log;
       of_plan = plan_call log;
-      of_sheet = sheet_call log;
       of_cut_test = cut_test_call log;
       of_covers = covers_call log;
       of_step = step_call log;

@@ -1,4 +1,5 @@
 // The calls of the dashboard, on numbers and slices.
+#![tactic(auto)]
 
 mod stepping;
 
@@ -20,6 +21,7 @@ ghost use Rattle.restore_plan.specs.Calls.{plan_total_words};
 ghost use Rattle.restore_plan.specs.Floor.{Floor};
 ghost use Rattle.restore_plan.specs.Shown.{Shown};
 ghost use Rattle.restore_plan.specs.AsBefore.{AsBefore};
+ghost use Rattle.sheet.specs.Calls.{sheet_call};
 ghost use Rattle.sheet.specs.Summed.{Summed};
 ghost use Rattle.replay_machine.specs.Calls.{others_refusal};
 ghost use Rattle.replay_machine.specs.Demand3.{Demand3};
@@ -158,7 +160,7 @@ pub fn plan(
 // The sheet of a list of breakpoints: for each worker the replayed events and units, summed over their plans, and the number of plans that
 // replay an event of it.
 pub fn sheet(log: &[u8], list: &[u32], table: &[u32], sheet: &mut [u64], scratch: &mut [u32]) -> u32
-    ensures left { left result (sheet.new ∷ []) ≡ (answers_to (given log.now)).of_sheet list.now table.now
+    ensures left { left result (sheet.new ∷ []) ≡ sheet_call (given log.now) list.now table.now
         sheet.old (length scratch.old) }
     ensures kept { KeptIfRefused result scratch.old scratch.new }
     ensures summed { result ≡ 0 → Summed (table_of table.now) (workers_of log.now) list.now

@@ -19,6 +19,7 @@ ghost use Rattle.restore_plan.specs.Calls.{plan_total_words};
 ghost use Rattle.restore_plan.specs.Floor.{Floor};
 ghost use Rattle.restore_plan.specs.Shown.{Shown};
 ghost use Rattle.restore_plan.specs.AsBefore.{AsBefore};
+ghost use Rattle.sheet.specs.Calls.{sheet_call};
 ghost use Rattle.sheet.specs.Summed.{Summed};
 ghost use Rattle.replay_machine.specs.Calls.{others_refusal};
 ghost use Rattle.replay_machine.specs.Demand3.{Demand3};
@@ -138,7 +139,7 @@ pub extern "C" fn sheet(
     sheet: &mut [u64],
     scratch: &mut [u32],
 ) -> u32
-    ensures left { left result (sheet.new ∷ []) ≡ (answers_to (given log.now)).of_sheet list.now table.now
+    ensures left { left result (sheet.new ∷ []) ≡ sheet_call (given log.now) list.now table.now
         sheet.old (length scratch.old) }
     ensures kept { KeptIfRefused result scratch.old scratch.new }
     ensures summed { result ≡ 0 → Summed (table_of table.now) (workers_of log.now) list.now

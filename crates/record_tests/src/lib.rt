@@ -1,4 +1,5 @@
 // The tests 7 to 11 of a log's records, by their numbers.
+#![tactic(auto)]
 
 ghost use Rattle.std.specs.Prelude.{◌≡◌, ◌+◌, ◌<◌, ◌≤◌};
 ghost use Rattle.event_log.specs.Header.{layout_refusal};

@@ -3,7 +3,7 @@
 -- Assumes nothing.
 use Rattle.std.specs.Prelude.{Bool, cond, ◌||◌, List, ℕ, ◌*◌, eqb, leb, ltb}
 use Rattle.ranges.specs.Fold.{any_below}
-use Rattle.lent.specs.Lent.{at, or_else, words_refusal, short_scratch}
+use Rattle.lent.specs.Lent.{at, or_else, words_refusal}
 use Rattle.event_log.specs.Model.{Workers, worker_count, event_count}
 use Rattle.accept.specs.Refusal.{Given}
 
@@ -19,9 +19,9 @@ event_refusal log w e = cond (eqb e 0 || ltb (event_count log w) e) 13 0
 unfoldable pub scratch_words : ℕ → ℕ
 scratch_words n = cond (eqb n 1) 1 (2 * n)
 
--- 15: "Refusal 15 is for fewer than that"
+-- 15: "scratch too short": "Refusal 15 is for fewer than that"
 unfoldable pub scratch_refusal : Workers → ℕ → ℕ
-scratch_refusal log lent = short_scratch lent (scratch_words (worker_count log))
+scratch_refusal log lent = cond (ltb lent (scratch_words (worker_count log))) 15 0
 
 -- 16: "a cut word over the event count"
 unfoldable pub over_count : Workers → List ℕ → ℕ → Bool
@@ -34,9 +34,9 @@ cut_refusal log words = cond (any_below (over_count log words) (worker_count log
 abbrev pub event_in_refusal : Workers → ℕ → ℕ → ℕ
 event_in_refusal log w e = or_else (worker_refusal log w) (event_refusal log w e)
 
--- the log's, then these: of a call for an event
+-- the log's, then 12 and 13: of a call for an event
 unfoldable pub breakpoint_refusal : Given → ℕ → ℕ → ℕ
-breakpoint_refusal log w e = or_else log.refusal (event_in_refusal log.workers w e)
+breakpoint_refusal log w e = or_else log.refusal (or_else (worker_refusal log.workers w) (event_refusal log.workers w e))
 
 -- the log's, then 12 to 14: of a call that writes `each` words for each worker into those lent; `others` is 14 where something else lent is too short
 unfoldable pub line_refusal : Given → ℕ → ℕ → ℕ → ℕ → ℕ → ℕ

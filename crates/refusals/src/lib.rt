@@ -1,4 +1,5 @@
 // Refusals 12 to 15, and the chains of refusals that the calls share.
+#![tactic(auto)]
 
 ghost use Rattle.std.specs.Prelude.{◌≡◌, ◌≤◌};
 ghost use Rattle.event_log.specs.Header.{layout_refusal};

@@ -1,4 +1,5 @@
 // The replay machine: one step of a worker, over the words of a plan and of the positions; and lists of steps.
+#![tactic(auto)]
 
 pub mod list;
 

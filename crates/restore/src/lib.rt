@@ -1,4 +1,5 @@
 // The restore plan of a breakpoint event.
+#![tactic(auto)]
 
 ghost use Rattle.std.specs.Prelude.{◌≡◌, ◌*◌, ◌<◌, ◌≤◌, length, take};
 ghost use Rattle.ranges.specs.Fold.{tabulate};
@@ -8,6 +9,7 @@ ghost use Rattle.event_log.specs.Model.{worker_count, IsEvent};
 ghost use Rattle.accept.specs.Refusal.{log_refusal, given};
 ghost use Rattle.lower_cut.specs.Figure2.{lower_cut};
 ghost use Rattle.lower_cut.specs.Calls.{found_cut};
+ghost use Rattle.restore_plan.specs.Plan.{plan_words};
 ghost use Rattle.cost.specs.Words.{cut_in, cuts_in};
 ghost use Rattle.unit_table.specs.Table.{table_of, table_refusal};
 ghost use Rattle.restore_plan.specs.Calls.{plan_refusal, found_plan, plan_answer, plan_total_words, plan_totals, planned_words};
@@ -68,7 +70,7 @@ fn plan_found(
         × (worker_count (workers_of log.now) ≤ length scratch.old) × (i < worker_count (workers_of log.now)) × (IsEvent (workers_of log.now) i event)
         × (table_refusal table.now ≡ 0) }
     ensures answer { result ≡ found_plan (table_of table.now) (workers_of log.now) i event }
-    ensures words { words.new ≡ planned_words (workers_of log.now) i event }
+    ensures words { words.new ≡ plan_words (workers_of log.now) (lower_cut (workers_of log.now) i event) }
 {
     let cut = plan_words(log, i, event, words, scratch);
     Totals {

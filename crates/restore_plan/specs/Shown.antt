@@ -1,7 +1,6 @@
 -- The identifiers that plan words show: document 02, Note 6.
 -- Assumes nothing.
-use Rattle.std.specs.Prelude.{◌≡◌, false, List, ℕ, ◌+◌, ◌*◌, ◌<◌, ◌≤◌}
-use Rattle.lent.specs.Lent.{at}
+use Rattle.std.specs.Prelude.{◌≡◌, false, List, ℕ, ◌<◌, ◌≤◌}
 use Rattle.records.specs.Mark.{has_mark}
 use Rattle.event_log.specs.Model.{Log, Workers, worker_count, checkpoint_count, checkpoint_of}
 use Rattle.cost.specs.Words.{start_in, identifier_in}

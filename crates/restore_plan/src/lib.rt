@@ -1,4 +1,5 @@
 // The restore plan: its definitions and theorems, and what it returns.
+#![tactic(auto)]
 
 // The words of the plan of a log with as many workers as there may be.
 pub const PLAN_WORDS: usize = 3 * event_log::MAX_WORKERS;

@@ -1,5 +1,6 @@
 // The yearbook sheet: for each worker the replayed events and units, summed over the plans of a list, and the number of plans that replay an
 // event of it.
+#![tactic(auto)]
 
 ghost use Rattle.std.specs.Prelude.{◌≡◌, [], ◌∷◌, ℕ, ◌+◌, ◌*◌, ◌^◌, ◌<◌, ◌≤◌, length, take, replicate};
 ghost use Rattle.ranges.specs.Fold.{tabulate};

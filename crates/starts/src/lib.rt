@@ -1,4 +1,5 @@
 // The starts of a plan: each worker is rolled back from its latest checkpoint within the cut, until no send is lost.
+#![tactic(auto)]
 
 ghost use Rattle.std.specs.Prelude.{◌≡◌, ◌+◌, ◌*◌, ◌<◌, ◌≤◌, length};
 ghost use Rattle.ranges.specs.Fold.{first_below};

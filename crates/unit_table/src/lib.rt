@@ -1,4 +1,5 @@
 // Unit tables: 12 words, a row of three for each of the four roles, in it a send, a receive without its data, a receive with it.
+#![tactic(auto)]
 
 ghost use Rattle.std.specs.Prelude.{◌≡◌, ◌<◌, length};
 ghost use Rattle.ranges.specs.Fold.{any_below};

@@ -1,4 +1,5 @@
 // The upper line of a breakpoint event: each other worker is moved on, event by event, up to one that the breakpoint event happened before.
+#![tactic(auto)]
 
 ghost use Rattle.std.specs.Prelude.{◌≡◌, ◌≢◌, [], ◌∷◌, ◌+◌, ◌<◌, ◌≤◌, length};
 ghost use Rattle.lent.specs.Lent.{left};

@@ -2,13 +2,13 @@
 //! before and behind.
 
 use crate::description::{
-    interval_length, packed_length, scratch, scratch_words, sheet_words, worker_count, Description,
-    INTERVAL_FORM, MARK, MAX_BREAKPOINTS, MAX_LOG, MAX_WORKERS, TABLE_WORDS,
+    interval_length, packed_length, scratch, scratch_words, worker_count, Description,
+    INTERVAL_FORM, MARK, MAX_LOG, MAX_WORKERS, TABLE_WORDS,
 };
 use crate::failure::{self, Call, Difference, Meaning};
 use crate::intervals::Named;
 use crate::random::Random;
-use crate::sides::{Arguments, Sheet, Write, EXPORTED, NAMES, REFERENCE};
+use crate::sides::{Arguments, Write, EXPORTED, NAMES, REFERENCE};
 use reference::{Log, BUILT_IN};
 use restore_planner::calls;
 
@@ -281,75 +281,6 @@ pub fn plan(
         (log, &arguments),
         lengths,
     )
-}
-
-/// The words that are lent to a sheet, those that it only reads too.
-#[derive(Clone, Debug)]
-struct SheetRoom {
-    list: Lent<u32>,
-    table: Lent<u32>,
-    sheet: Lent<u64>,
-    scratch: Lent<u32>,
-}
-
-impl SheetRoom {
-    /// Makes a call; gives its number.
-    fn make(&mut self, call: Sheet, log: &[u8]) -> u32 {
-        call(
-            log,
-            self.list.lent(),
-            self.table.lent(),
-            self.sheet.lent(),
-            self.scratch.lent(),
-        )
-    }
-
-    fn differences(&self, expected: &SheetRoom) -> [Option<Difference>; 4] {
-        [
-            self.sheet.difference(&expected.sheet),
-            self.scratch.difference(&expected.scratch),
-            self.list.difference(&expected.list),
-            self.table.difference(&expected.table),
-        ]
-    }
-}
-
-/// Compares the sheet of a list of breakpoints, with this many words lent for the sheet and as scratch. Gives the number, and the words of
-/// the sheet.
-pub fn sheet(
-    random: &mut Random,
-    log: &[u8],
-    list: &[u32],
-    table: &[u32],
-    (words, scratch): (usize, usize),
-) -> (u32, Vec<u64>) {
-    let mut ours = SheetRoom {
-        list: Lent::holding(random, "list", list),
-        table: Lent::holding(random, "table", table),
-        sheet: Lent::any(random, ("sheet", Meaning::Sheet), words, Random::long),
-        scratch: Lent::words(random, "scratch", scratch),
-    };
-    let (before, mut theirs) = (ours.clone(), ours.clone());
-    let number = ours.make(calls::sheet, log);
-    let other = theirs.make(reference::sheet, log);
-    let call = Call {
-        name: "sheet",
-        random,
-        log,
-        arguments: &[
-            ("list", list.len() as u64),
-            ("table", table.len() as u64),
-            ("sheet", words as u64),
-            ("scratch", scratch as u64),
-        ],
-    };
-    call.returned(number, other);
-    // Refused: nothing that is lent changes.
-    let mut expected = if number == 0 { theirs } else { before };
-    ours.scratch.forget_if(number == 0);
-    expected.scratch.forget_if(number == 0);
-    call.same(ours.differences(&expected));
-    (number, ours.sheet.lent().to_vec())
 }
 
 /// Compares the loading of a unit table, which writes nothing.
@@ -969,68 +900,6 @@ pub fn event(random: &mut Random, log: &Log, worker: u32) -> u32 {
     }
 }
 
-/// The words of so many breakpoints, all of them events of a log; none where the log has no events.
-pub fn listed_events(random: &mut Random, log: &Log, many: usize) -> Vec<u32> {
-    let counts = log.workers.iter().map(|worker| worker.count());
-    let workers: Vec<(u32, u32)> = (0..).zip(counts).filter(|&(_, count)| count > 0).collect();
-    if workers.is_empty() {
-        return Vec::new();
-    }
-    let mut event = |_| {
-        let (worker, count) = random.pick(&workers);
-        let any = random.within(1, count as usize) as u32;
-        [worker, random.pick(&[any, any, any, count])]
-    };
-    (0..many).flat_map(&mut event).collect()
-}
-
-/// Puts a worker number that 12 refuses, or an event that 13 refuses, in the place of one of the breakpoints of a list, most often of the
-/// first or the last; into the empty list a breakpoint that has it.
-fn put_fault(random: &mut Random, log: &Log, list: &mut Vec<u32>) {
-    if list.is_empty() {
-        list.extend([0, 1]);
-    }
-    let last = list.len() / 2 - 1;
-    let any = random.within(0, last);
-    let place = 2 * random.pick(&[0, any, last]);
-    let n = log.size() as u32;
-    if random.chance(500) {
-        list[place] = random.pick(&[n, n, n + 1, 64, 255, 256, 1 << 31, u32::MAX]);
-        return;
-    }
-    let worker = log.workers.get(list[place] as usize);
-    let count = worker.map_or(0, |worker| worker.count());
-    list[place + 1] = random.pick(&[0, count + 1, count + 1, 65_536, 1 << 16 | 1, u32::MAX]);
-}
-
-/// The words of a list of breakpoints for a log: events of the log, now and then as many as a list may have; in some places a fault; or an
-/// odd number of words or too many.
-pub fn breakpoints(random: &mut Random, log: &[u8], accepted: &Log) -> Vec<u32> {
-    // Each plan goes through the log.
-    let most = (MOST_BYTES / log.len()).min(MAX_BREAKPOINTS);
-    let many = match random.below(60) {
-        0..4 => 0,
-        4..8 => 1,
-        8 => most,
-        _ => random.below(24).min(most),
-    };
-    let mut list = listed_events(random, accepted, many);
-    for _ in 0..random.pick(&[0, 0, 0, 0, 0, 1, 1, 2]) {
-        put_fault(random, accepted, &mut list);
-    }
-    match random.below(20) {
-        0 => drop(list.pop()),
-        1 => list.push(random.word()),
-        2 => {
-            let words = random.pick(&[1, 3, 2_047, 2_049, 2_050, 2_051, 4_096, 5_000]);
-            let word = random.pick(&[0, 1, 1 << 31]);
-            list.resize(words, word);
-        }
-        _ => (),
-    }
-    list
-}
-
 /// A unit table that loads: the built-in one, one of the least and the largest words, or any.
 pub fn loaded_table(random: &mut Random) -> [u32; TABLE_WORDS] {
     match random.below(6) {
@@ -1170,7 +1039,6 @@ impl State {
 pub struct Seen {
     numbers: Vec<u64>,
     restored: Vec<u64>,
-    sheets: Vec<u64>,
     packed: Vec<u64>,
     converted: Vec<u64>,
     tables: Vec<u64>,
@@ -1213,16 +1081,6 @@ impl Seen {
             self.unfinished += u64::from(!counted.is_finished);
             self.refused_steps += counted.refused;
         }
-    }
-
-    /// Counts the number of a sheet.
-    pub fn add_sheet(&mut self, number: u32) {
-        count(&mut self.sheets, number);
-    }
-
-    /// Fails where no sheet returned one of the numbers.
-    pub fn has_sheets(&self, numbers: impl IntoIterator<Item = u32>) {
-        has(&self.sheets, numbers);
     }
 
     /// Counts the number of a packing.
@@ -1300,7 +1158,6 @@ pub fn every_call(random: &mut Random, log: &[u8], seen: &mut Seen) {
     match reference::accept(log) {
         Ok(accepted) => {
             events(random, log, &accepted, seen);
-            sheets(random, log, &accepted, seen);
             states(random, log, &accepted, seen);
             replays(random, log, &accepted, seen);
             tests(random, log, &accepted, seen);
@@ -1349,7 +1206,7 @@ fn refused_at_event(
     log: &[u8],
     worker: u32,
     n: usize,
-) -> [(&'static str, u32); 6] {
+) -> [(&'static str, u32); 5] {
     let event = random.below(5) as u32;
     let lengths = Lengths {
         words: 3 * n,
@@ -1359,29 +1216,13 @@ fn refused_at_event(
     let list: Vec<u32> = (0..random.below(4)).map(|_| random.word()).collect();
     let (table, room) = (table(random), Room::any(random, n, list.len()));
     let replayed = restore_and_replay(random, log, worker, event, &list, &table, room);
-    let breakpoints = refused_breakpoints(random, worker, event);
-    let sheet_lent = lent_for_sheet(random, n);
-    let (of_sheet, _) = sheet(random, log, &breakpoints, &table, sheet_lent);
     [
         ("vector", vector(random, log, worker, event, n)),
         ("upper_line", upper_line(random, log, worker, event, n)),
         ("lower_cut", lower_cut(random, log, worker, event, lengths)),
         ("plan", plan(random, log, worker, event, &table, lengths)),
-        ("sheet", of_sheet),
         ("restore_and_replay", replayed.number()),
     ]
-}
-
-/// The words of a list of breakpoints for a log that is refused, of any number.
-fn refused_breakpoints(random: &mut Random, worker: u32, event: u32) -> Vec<u32> {
-    let words = random.pick(&[0, 1, 2, 2, 4, 7, 2_048, 2_049, 2_050]);
-    [worker, event].into_iter().cycle().take(words).collect()
-}
-
-/// Numbers of words to lend for a sheet of n workers and as its scratch: as many as are needed, fewer or more.
-fn lent_for_sheet(random: &mut Random, n: usize) -> (usize, usize) {
-    let (words, scratch) = sheet_words(n);
-    (length(random, words), length(random, scratch))
 }
 
 /// Compares the other calls on a log that is refused.
@@ -1431,17 +1272,6 @@ fn events(random: &mut Random, log: &[u8], accepted: &Log, seen: &mut Seen) {
         };
         let table = table(random);
         seen.add(plan(random, log, w, e, &table, lengths));
-    }
-}
-
-/// Compares sheets of lists of breakpoints.
-fn sheets(random: &mut Random, log: &[u8], accepted: &Log, seen: &mut Seen) {
-    for _ in 0..3 {
-        let list = breakpoints(random, log, accepted);
-        let table = table(random);
-        let lent = lent_for_sheet(random, accepted.size());
-        let (number, _) = sheet(random, log, &list, &table, lent);
-        seen.add_sheet(number);
     }
 }
 

@@ -134,14 +134,6 @@ pub fn scratch(log: &[u8]) -> Vec<u32> {
     vec![7; scratch_words(worker_count(log).min(MAX_WORKERS))]
 }
 
-/// The words of a sheet of n workers, and the scratch words that it needs.
-pub fn sheet_words(n: usize) -> (usize, usize) {
-    (3 * n, 5 * n)
-}
-
-/// The most breakpoints of a list.
-pub const MAX_BREAKPOINTS: usize = 1_024;
-
 /// The length of the packed log of an accepted log.
 pub fn packed_length(log: &Log) -> usize {
     let sections = log

@@ -66,8 +66,6 @@ pub enum Meaning {
     Plain,
     /// Cut, start and identifier of each worker.
     Plan,
-    /// Events, units and plans of each worker.
-    Sheet,
     /// Words with these names.
     Named(&'static [&'static str]),
     /// For each step of a list its answer and this many positions.
@@ -82,10 +80,6 @@ impl Meaning {
             Meaning::Plain => word,
             Meaning::Plan => {
                 let name = ["cut", "start", "identifier"][index % 3];
-                format!("{word}, the {name} of worker {}", index / 3)
-            }
-            Meaning::Sheet => {
-                let name = ["events", "units", "plans"][index % 3];
                 format!("{word}, the {name} of worker {}", index / 3)
             }
             Meaning::Named(names) => match names.get(index) {

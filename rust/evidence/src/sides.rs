@@ -1,9 +1,8 @@
 //! The calls of both sides, the exported functions and the reference, and what they give for the same arguments.
 
-use crate::compare::{breakpoints, event, length, table, worker, State, MOST_BYTES};
+use crate::compare::{event, length, table, worker, State, MOST_BYTES};
 use crate::description::{
-    interval_length, packed_length, scratch, sheet_words, worker_count, MARK, MAX_LOG, MAX_WORKERS,
-    TABLE_WORDS,
+    interval_length, packed_length, scratch, worker_count, MARK, MAX_LOG, MAX_WORKERS, TABLE_WORDS,
 };
 use crate::random::Random;
 use reference::{Log, BUILT_IN};
@@ -19,8 +18,6 @@ pub type LoadTable = fn(&[u32]) -> u32;
 pub type BuiltInTable = fn(&mut [u32]) -> u32;
 /// The plan, with a unit table.
 pub type Plan = fn(&[u8], u32, u32, &[u32], &mut [u32], &mut [u32], &mut [u64]) -> u32;
-/// The sheet of a list of breakpoints, with a unit table.
-pub type Sheet = fn(&[u8], &[u32], &[u32], &mut [u64], &mut [u32]) -> u32;
 /// The cut test.
 pub type CutTest = fn(&[u8], &[u32], &mut [u32]) -> u32;
 /// The covering test.
@@ -57,7 +54,6 @@ pub struct Calls {
     pub load_table: LoadTable,
     pub built_in_table: BuiltInTable,
     pub plan: Plan,
-    pub sheet: Sheet,
     pub cut_test: CutTest,
     pub covers: Covers,
     pub step: Step,
@@ -76,7 +72,6 @@ pub const EXPORTED: Calls = Calls {
     load_table: calls::load_table,
     built_in_table: calls::built_in_table,
     plan: calls::plan,
-    sheet: calls::sheet,
     cut_test: calls::cut_test,
     covers: calls::covers,
     step: calls::step,
@@ -95,7 +90,6 @@ pub const REFERENCE: Calls = Calls {
     load_table: reference::load_table,
     built_in_table: reference::built_in_table,
     plan: reference::plan,
-    sheet: reference::sheet,
     cut_test: reference::cut_test,
     covers: reference::covers,
     step: reference::step,
@@ -114,7 +108,6 @@ pub const EMPTY: Calls = Calls {
     load_table: |_| 0,
     built_in_table: |_| 0,
     plan: |_, _, _, _, _, _, _| 0,
-    sheet: |_, _, _, _, _| 0,
     cut_test: |_, _, _| 0,
     covers: |_, _, _| 0,
     step: |_, _, _, _| 0,
@@ -148,20 +141,10 @@ impl Calls {
             refusal => Err(refusal),
         }
     }
-
-    /// The words of the sheet of a list of breakpoints, with a unit table; or the refusal.
-    pub fn summed(&self, log: &[u8], list: &[u32], table: &[u32]) -> Result<Vec<u64>, u32> {
-        let (words, scratch) = sheet_words(worker_count(log).min(MAX_WORKERS));
-        let (mut sheet, mut scratch) = (vec![7; words], vec![7; scratch]);
-        match (self.sheet)(log, list, table, &mut sheet, &mut scratch) {
-            0 => Ok(sheet),
-            refusal => Err(refusal),
-        }
-    }
 }
 
 /// The names of the calls.
-pub const NAMES: [&str; 15] = [
+pub const NAMES: [&str; 14] = [
     "log_refusal",
     "vector",
     "upper_line",
@@ -169,7 +152,6 @@ pub const NAMES: [&str; 15] = [
     "load_table",
     "built_in_table",
     "plan",
-    "sheet",
     "cut_test",
     "covers",
     "step",
@@ -192,15 +174,11 @@ pub struct Arguments {
     pub cut: Vec<u32>,
     /// The workers of a list of steps.
     pub list: Vec<u32>,
-    /// The words of a list of breakpoints.
-    pub breakpoints: Vec<u32>,
     /// The unit table.
     pub table: Vec<u32>,
     /// How many words are lent for a line, for a plan, as totals, for the steps of the list and for the built-in table. A lower cut is lent
     /// two totals fewer.
     pub lent: [usize; 5],
-    /// How many words are lent for the sheet, and as its scratch.
-    pub sheet: (usize, usize),
     /// How many bytes and words are lent for the packed log.
     pub packed: (usize, usize),
     /// How many bytes and words are lent for the interval log.
@@ -218,14 +196,14 @@ pub struct Lent {
     pub positions: Vec<u32>,
     /// The answers of a list of steps, or the answers with the positions after each.
     pub steps: Vec<u32>,
-    /// Totals, a sheet, or the length of a log that is written.
+    /// Totals, or the length of a log that is written.
     pub totals: Vec<u64>,
     /// A packed log or an interval log.
     pub out: Vec<u8>,
 }
 
 impl Arguments {
-    /// Arguments for a log, with the breakpoint as a list, the built-in table and as many words and bytes as are needed.
+    /// Arguments for a log, with the built-in table and with as many words and bytes as are needed.
     pub fn new(at: (u32, u32), state: State, list: Vec<u32>, log: &Log) -> Arguments {
         let n = log.size();
         Arguments {
@@ -233,10 +211,8 @@ impl Arguments {
             identifier: 0,
             cut: state.plan.chunks(3).map(|w| w[0]).collect(),
             state,
-            breakpoints: vec![at.0, at.1],
             table: BUILT_IN.to_vec(),
             lent: [n, 3 * n, 4, list.len() * (n + 1), TABLE_WORDS],
-            sheet: sheet_words(n),
             packed: (packed_length(log).min(MAX_LOG), 1),
             converted: (interval_length(log).min(MAX_LOG), 1),
             list,
@@ -259,13 +235,10 @@ impl Arguments {
             .collect();
         let mut arguments = Arguments::new((worker, event), state, list, accepted);
         arguments.identifier = random.below(12) as u32 + random.pick(&[0, 0, 0, MARK]);
-        arguments.breakpoints = breakpoints(random, log, accepted);
         arguments.table = table(random);
         for lent in &mut arguments.lent {
             *lent = length(random, *lent);
         }
-        let (words, scratch) = arguments.sheet;
-        arguments.sheet = (length(random, words), length(random, scratch));
         let (bytes, words) = arguments.packed;
         arguments.packed = (length(random, bytes), length(random, words));
         let (bytes, words) = arguments.converted;
@@ -273,8 +246,7 @@ impl Arguments {
         arguments
     }
 
-    /// What a call on a log is lent: as much scratch as it needs, or for a sheet as much as is said, the positions from which steps are
-    /// made, and else 7s.
+    /// What a call on a log is lent: as much scratch as it needs, the positions from which steps are made, and else 7s.
     pub fn lend(&self, name: &str, log: &[u8]) -> Lent {
         let [line, plan, totals, steps, table] = self.lent;
         let of = |words: usize| Lent {
@@ -301,11 +273,6 @@ impl Arguments {
             "lower_cut" => with_scratch(line, totals.saturating_sub(2)),
             "built_in_table" => of(table),
             "plan" => with_scratch(plan, totals),
-            "sheet" => Lent {
-                scratch: vec![7; self.sheet.1],
-                totals: vec![7; self.sheet.0],
-                ..Lent::default()
-            },
             "cut_test" | "covers" => of(1),
             "step" => with_positions(0),
             "steps" => with_positions(self.list.len()),
@@ -340,7 +307,6 @@ impl Arguments {
             "load_table" => (calls.load_table)(table),
             "built_in_table" => (calls.built_in_table)(words),
             "plan" => (calls.plan)(log, worker, event, table, words, scratch, totals),
-            "sheet" => (calls.sheet)(log, &self.breakpoints, table, totals, scratch),
             "cut_test" => (calls.cut_test)(log, &self.cut, words),
             "covers" => (calls.covers)(log, self.identifier, words),
             "step" => (calls.step)(log, plan, positions, worker),

@@ -1,8 +1,7 @@
 //! The stack that the exported calls take, in bytes, on logs that make them go deep.
 
-use crate::compare::{listed_events, State};
+use crate::compare::State;
 use crate::description::{get, set_form, worker_count, Description, MAX_EVENTS, MAX_WORKERS};
-use crate::random::Random;
 use crate::runs::{add_falling, deep, different_sends, ring, shared_sends};
 use crate::sides::{Arguments, Calls, EMPTY, EXPORTED, REFERENCE};
 use crate::touched::touched;
@@ -13,7 +12,7 @@ use std::hint::black_box;
 pub struct Case {
     /// The log.
     pub log: Vec<u8>,
-    /// The last event of a worker, alone and as a list, and the first steps of its plan.
+    /// The last event of a worker, and the first steps of its plan.
     pub arguments: Arguments,
 }
 
@@ -23,10 +22,10 @@ impl Case {
         let at = (worker as u32, accepted.workers[worker].count());
         let state = State::planned(&log, at.0, at.1).expect("a plan");
         let list = vec![0, at.0, accepted.size() as u32];
-        let mut arguments = Arguments::new(at, state, list, &accepted);
-        // The breakpoint twice, since the second plan comes to words that the first one left.
-        arguments.breakpoints = vec![at.0, at.1, at.0, at.1];
-        Case { arguments, log }
+        Case {
+            arguments: Arguments::new(at, state, list, &accepted),
+            log,
+        }
     }
 
     /// The same with the log in a form.
@@ -59,17 +58,6 @@ impl Case {
         });
         one.max(other)
     }
-}
-
-/// A log of the most workers on which the breakpoint goes deep, with a list of so many breakpoints of any kind, of which it is the last.
-pub fn listed(many: usize) -> Case {
-    let mut case = Case::new(visited(MAX_WORKERS).pack(), MAX_WORKERS - 1);
-    let accepted = reference::accept(&case.log).expect("an accepted log");
-    let mut random = Random::new(many as u64);
-    let mut list = listed_events(&mut random, &accepted, many - 1);
-    list.extend([case.arguments.at.0, case.arguments.at.1]);
-    case.arguments.breakpoints = list;
-    case
 }
 
 /// Logs of the most workers, of form 2 and with receives that do not rise. No two checkpoints of a worker are in one interval.

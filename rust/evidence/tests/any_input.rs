@@ -13,8 +13,6 @@ const ARGUMENTS: [u32; 4] = [0, 12, 13, 14];
 const PLANS: [u32; 2] = [15, 27];
 /// The numbers of the calls on unit tables.
 const TABLES: [u32; 3] = [0, 14, 27];
-/// The numbers of sheets of any list of breakpoints, with enough words and scratch or fewer, and with any unit table.
-const SHEETS: [u32; 7] = [0, 12, 13, 14, 15, 27, 29];
 /// The numbers of a packing with enough bytes and words or fewer.
 const PACKINGS: [u32; 3] = [0, 14, 25];
 /// The numbers of a conversion to an interval log with enough bytes and words or fewer.
@@ -39,7 +37,6 @@ fn small_valid_logs() {
     seen.has(PLANS);
     seen.has_replayed(ARGUMENTS);
     seen.has_replayed(PLANS);
-    seen.has_sheets(SHEETS);
     seen.has_packed(PACKINGS);
     seen.has_converted(CONVERSIONS);
     seen.has_tables(TABLES);
@@ -60,7 +57,6 @@ fn larger_valid_logs() {
     seen.has(PLANS);
     seen.has_replayed(ARGUMENTS);
     seen.has_replayed(PLANS);
-    seen.has_sheets(SHEETS);
     seen.has_packed(PACKINGS);
     seen.has_converted(CONVERSIONS);
     seen.has_sets(20);
@@ -86,7 +82,6 @@ fn logs_of_form_2_with_repeats() {
         seen.has(PLANS);
         seen.has_replayed(ARGUMENTS);
         seen.has_replayed(PLANS);
-        seen.has_sheets(SHEETS);
         seen.has_packed(PACKINGS);
         seen.has_converted(CONVERSIONS);
     }
@@ -109,7 +104,6 @@ fn damaged_logs() {
     seen.has([24]);
     seen.has_replayed(ARGUMENTS);
     seen.has_replayed(PLANS);
-    seen.has_sheets(SHEETS);
     seen.has_packed(PACKINGS);
     seen.has_converted(CONVERSIONS);
 }

@@ -169,63 +169,28 @@ impl Model {
             .map_or(0, |checkpoint| checkpoint.1)
     }
 
-    /// The units of the events of a worker after its start and within its cut.
-    fn worker_units(&self, table: &Table, w: usize, cut: u32, start: u32) -> u64 {
-        let worker = &self.workers[w];
-        let events = worker.events[start as usize..cut as usize].iter();
-        let units = events.map(|event| match (worker.role, event.kind) {
-            (0, 1) => table[0],
-            (0, 2) => table[1],
-            (0, 3) => table[2],
-            (1, 1) => table[3],
-            (1, 2) => table[4],
-            (1, 3) => table[5],
-            (2, 1) => table[6],
-            (2, 2) => table[7],
-            (2, 3) => table[8],
-            (3, 1) => table[9],
-            (3, 2) => table[10],
-            (3, 3) => table[11],
-            other => unreachable!("{other:?}"),
-        });
-        units.map(u64::from).sum()
-    }
-
     fn units(&self, table: &Table, cut: &[u32], starts: &[u32]) -> u64 {
-        let of = |w: usize| self.worker_units(table, w, cut[w], starts[w]);
-        (0..self.workers.len()).map(of).sum()
-    }
-
-    /// The cut of an event: of each worker the events that happened before it, and itself.
-    fn cut(&self, at: (usize, u32)) -> Vec<u32> {
-        let within = |w, x| (w, x) == at || self.happened_before((w, x), at);
-        let events = |w| (1..=self.count(w)).filter(move |&x| within(w, x)).count();
-        (0..self.workers.len()).map(|w| events(w) as u32).collect()
-    }
-
-    /// For each worker the latest start of all startable choices.
-    fn latest(&self, cut: &[u32]) -> Vec<u32> {
-        let mut choices = self.choices(cut);
-        choices.retain(|starts| self.is_startable(cut, starts));
-        let latest = |w: usize| choices.iter().map(|starts| starts[w]).max();
-        (0..cut.len()).map(|w| latest(w).unwrap()).collect()
-    }
-
-    /// For each worker the events that the plans of a list replay, their units, and how many plans replay one.
-    fn sheet(&self, table: &Table, list: &[(usize, u32)]) -> Vec<u64> {
-        let mut rows = vec![[0; 3]; self.workers.len()];
-        for &at in list {
-            let cut = self.cut(at);
-            let starts = self.latest(&cut);
-            for (w, [events, units, plans]) in rows.iter_mut().enumerate() {
-                let replayed = (1..=self.count(w)).filter(|&x| starts[w] < x && x <= cut[w]);
-                let many = replayed.count() as u64;
-                *events += many;
-                *units += self.worker_units(table, w, cut[w], starts[w]);
-                *plans += u64::from(many >= 1);
+        let mut units = 0;
+        for (w, worker) in self.workers.iter().enumerate() {
+            for event in &worker.events[starts[w] as usize..cut[w] as usize] {
+                units += match (worker.role, event.kind) {
+                    (0, 1) => table[0],
+                    (0, 2) => table[1],
+                    (0, 3) => table[2],
+                    (1, 1) => table[3],
+                    (1, 2) => table[4],
+                    (1, 3) => table[5],
+                    (2, 1) => table[6],
+                    (2, 2) => table[7],
+                    (2, 3) => table[8],
+                    (3, 1) => table[9],
+                    (3, 2) => table[10],
+                    (3, 3) => table[11],
+                    other => unreachable!("{other:?}"),
+                };
             }
         }
-        rows.into_flattened()
+        units.into()
     }
 
     fn covers(&self, t: u32) -> bool {
@@ -282,42 +247,6 @@ fn every_event_of_small_logs() {
     assert!(rivals > 10_000, "few rivals: {rivals}");
 }
 
-/// Sheets of any events of small logs, some of them more than once, with each of the unit tables.
-#[test]
-fn sheets_of_small_logs() {
-    let mut plans = [0; 2];
-    for round in 0..1_000 {
-        let mut random = Random::round(7, round);
-        let mut description = small(&mut random);
-        let form = any_form(&mut description, 500, &mut random);
-        let log = description.pack_as(form);
-        let model = Model::new(description.without_withdrawn());
-        let workers = 0..model.workers.len();
-        let events = workers.flat_map(|w| (1..=model.count(w)).map(move |x| (w, x)));
-        let events: Vec<(usize, u32)> = events.collect();
-        let many = if events.is_empty() {
-            0
-        } else {
-            random.below(9)
-        };
-        let list: Vec<(usize, u32)> = (0..many).map(|_| random.pick(&events)).collect();
-        let given = list.iter().flat_map(|&(w, x)| [w as u32, x]);
-        let given: Vec<u32> = given.collect();
-        for table in tables(&mut random) {
-            let expected = model.sheet(&table, &list);
-            for (name, calls) in [("reference::sheet", REFERENCE), ("sheet", EXPORTED)] {
-                let call = call(&random, &log, name, &[]);
-                let found = call.accepted(calls.summed(&log, &given, &table));
-                call.same([differ(SHEET, &found, &expected)]);
-            }
-            let replaying = expected.chunks(3).filter(|row| row[2] > 0).count();
-            plans[0] += model.workers.len() - replaying;
-            plans[1] += replaying;
-        }
-    }
-    assert!(plans.iter().all(|&rows| rows > 3_000), "{plans:?}");
-}
-
 /// A call of the reference, for what a failure prints.
 fn call<'a>(
     random: &'a Random,
@@ -344,7 +273,6 @@ fn differ<T: Copy + PartialEq + Into<u64>>(
 
 const WORDS: (&str, Meaning) = ("words", Meaning::Plain);
 const PLAN: (&str, Meaning) = ("words", Meaning::Plan);
-const SHEET: (&str, Meaning) = ("sheet", Meaning::Sheet);
 const POSITIONS: (&str, Meaning) = ("positions", Meaning::Plain);
 const ANSWER: (&str, Meaning) = ("answer", Meaning::Plain);
 const BYTES: (&str, Meaning) = ("out", Meaning::Plain);
@@ -427,7 +355,9 @@ fn one_event(
             format!("that {starts:?} is startable is {startable}, that it works is {works}")
         });
     }
-    let latest = model.latest(&cut);
+    let latest: Vec<u32> = (0..n)
+        .map(|w| startable.iter().map(|starts| starts[w]).max().unwrap())
+        .collect();
     call("a choice").holds(startable.contains(&&latest), || {
         format!("the latest starts {latest:?} are not startable")
     });

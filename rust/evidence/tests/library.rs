@@ -1,7 +1,6 @@
-//! The library's `Log`, with its sheets, its packed log and its interval log, `Replay` and `UnitTable` against the reference on seeded logs
-//! and tables.
+//! The library's `Log`, with its packed log and its interval log, `Replay` and `UnitTable` against the reference on seeded logs and tables.
 
-use evidence::compare::{breakpoints, loaded_table, table};
+use evidence::compare::{loaded_table, table};
 use evidence::description::{interval_length, packed_length};
 use evidence::failure::{number, words, Call, Meaning};
 use evidence::random::Random;
@@ -122,55 +121,6 @@ fn one_event(random: &Random, bytes: &[u8], at: Breakpoint, table: &[u32], list:
         format!("{done} steps of the list and {advanced} advances for {events} events")
     });
     advanced
-}
-
-#[test]
-fn sheets_of_any_list() {
-    let mut numbers = [0; 30];
-    for round in 0..2_000 {
-        let random = &mut Random::round(2_400, round);
-        let bytes = any_log(random, 8, 60);
-        let accepted = reference::accept(&bytes).expect("an accepted log");
-        let list = breakpoints(random, &bytes, &accepted);
-        // A list of breakpoints has no odd word.
-        let (pairs, _) = list.as_chunks::<2>();
-        let at = |&[worker, event]: &[u32; 2]| Breakpoint { worker, event };
-        let list: Vec<Breakpoint> = pairs.iter().map(at).collect();
-        let table = loaded_table(random);
-        let expected = REFERENCE.summed(&bytes, pairs.as_flattened(), &table);
-        let call = Call {
-            name: "Log::sheet",
-            random,
-            log: &bytes,
-            arguments: &[("breakpoints", list.len() as u64)],
-        };
-        let log = call.accepted(Log::new(&bytes));
-        let table = call.accepted(UnitTable::load(&table));
-        let found = log.sheet(&list, &table);
-        match expected {
-            Ok(expected) => {
-                let rows = call.accepted(found);
-                let rows = rows.iter();
-                let found: Vec<u64> = rows
-                    .flat_map(|row| [row.events, row.units, row.plans])
-                    .collect();
-                let name = |index| Meaning::Sheet.word("sheet", index);
-                call.same([words(name, &found, &expected)]);
-                numbers[0] += 1;
-            }
-            Err(refusal) => {
-                let refused = Refusal::check(refusal).unwrap_err();
-                call.holds(found == Err(refused), || {
-                    format!("{found:?}, not {refusal}")
-                });
-                numbers[refusal as usize] += 1;
-            }
-        }
-    }
-    for number in [0, 12, 13, 29] {
-        assert!(numbers[number] > 20, "{number}: {numbers:?}");
-    }
-    assert_eq!(numbers.iter().filter(|&&times| times > 0).count(), 4);
 }
 
 #[test]

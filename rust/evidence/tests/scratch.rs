@@ -1,6 +1,6 @@
-//! Scratch (document 02, notes 8 and 10), in the exported calls and in the reference: a lower cut and both plans of n workers need 2 × n
-//! words, or one where n is 1, and a sheet 5 × n. With fewer they are refused by 15; with as many or more, whatever these held before, they
-//! give the same. The numbers are written down here by the notes, and what the calls give is the reference's.
+//! Scratch (document 02, note 8), in the exported calls and in the reference: a lower cut and both plans of n workers need 2 × n words, or
+//! one where n is 1. With fewer they are refused by 15; with as many or more, whatever these held before, they give the same. The numbers
+//! are written down here by the note, and what the calls give is the reference's.
 
 use evidence::compare::Lent;
 use evidence::description::{Description, Event, Worker, MAX_WORKERS, TABLE_WORDS};
@@ -10,19 +10,11 @@ use evidence::runs::{chain, deep, hub, ring, run, two_level_hub, Shape};
 use evidence::sides::{Calls, EXPORTED, REFERENCE};
 use reference::BUILT_IN;
 
-/// Worker counts and the scratch words that cuts and plans need, and sheets.
-const NEEDED: [(usize, [usize; 2]); 3] = [(2, [4, 10]), (3, [6, 15]), (MAX_WORKERS, [128, 320])];
+/// Worker counts and the scratch words that they need.
+const NEEDED: [(usize, usize); 3] = [(2, 4), (3, 6), (MAX_WORKERS, 128)];
 
 /// The calls that are lent scratch.
-const CALLS: [&str; 4] = ["lower_cut", "plan", "restore_and_replay", "sheet"];
-
-/// The scratch words that a call needs, of those of [`NEEDED`].
-fn needed_by(name: &str, [plan, sheet]: [usize; 2]) -> usize {
-    match name {
-        "sheet" => sheet,
-        _ => plan,
-    }
-}
+const CALLS: [&str; 3] = ["lower_cut", "plan", "restore_and_replay"];
 
 /// What a call is lent.
 #[derive(Clone)]
@@ -40,7 +32,6 @@ impl Memory {
         let [words, positions, steps, totals] = match name {
             "lower_cut" => [n, 0, 0, 2],
             "plan" => [3 * n, 0, 0, 4],
-            "sheet" => [0, 0, 0, 3 * n],
             _ => [3 * n, n, 2 * (n + 1), 4],
         };
         let mut any = |name, length| Lent::words(random, name, length);
@@ -66,8 +57,7 @@ impl Memory {
     }
 }
 
-/// An event of a log, with a list of two steps and a unit table. For a sheet it is a list of one breakpoint, and the totals of a [`Memory`]
-/// are the words of the sheet.
+/// An event of a log, with a list of two steps and a unit table.
 #[derive(Clone)]
 struct Case<'a> {
     random: Random,
@@ -75,7 +65,7 @@ struct Case<'a> {
     workers: usize,
     at: (u32, u32),
     table: Vec<u32>,
-    /// How many words fewer than are needed are lent for the cut, the plan or the sheet.
+    /// How many words fewer than are needed are lent for the cut or the plan.
     fewer: usize,
 }
 
@@ -95,10 +85,6 @@ impl<'a> Case<'a> {
     fn make(&self, name: &str, calls: &Calls, to: &mut Memory) -> u32 {
         let ((worker, event), log, table) = (self.at, self.log, &self.table);
         let (scratch, totals) = (to.scratch.lent(), to.totals.lent());
-        if name == "sheet" {
-            let sheet = &mut totals[self.fewer..];
-            return (calls.sheet)(log, &[worker, event], table, sheet, scratch);
-        }
         let words = &mut to.words.lent()[self.fewer..];
         match name {
             "lower_cut" => (calls.lower_cut)(log, worker, event, words, scratch, totals),
@@ -119,7 +105,7 @@ impl<'a> Case<'a> {
     }
 
     /// Tests a call that is lent this scratch by the number that both sides have to give. Where it is 0, the exported call writes what the
-    /// reference does, and the scratch is free; else nothing that is lent has changed. Gives the first total: but for a sheet, the visits.
+    /// reference does, and the scratch is free; else nothing that is lent has changed. Gives the first total, the visits.
     fn gives(&self, name: &'static str, scratch: &[u32], number: u32) -> u64 {
         let before = Memory::new(&mut self.random.clone(), name, self.workers, scratch);
         let [mut found, mut expected] = [before.clone(), before.clone()];
@@ -158,10 +144,10 @@ fn contents(random: &mut Random, length: usize) -> [Vec<u32>; 3] {
     ]
 }
 
-/// Lengths of scratch for n workers: none, around 2 × n, 3 × n, 5 × n and n × n, and others.
+/// Lengths of scratch for n workers: none, around 2 × n, 3 × n and n × n, and others.
 fn lengths(n: usize) -> Vec<usize> {
     let mut lengths = vec![0, 1, n, n + 1, 10 * n, n * n + 100, 5_000];
-    for around in [2 * n, 3 * n, 5 * n, n * n] {
+    for around in [2 * n, 3 * n, n * n] {
         lengths.extend(around - 1..=around + 1);
     }
     lengths.sort_unstable();
@@ -201,19 +187,18 @@ fn breakpoints(description: &Description) -> Vec<(u32, u32)> {
 }
 
 /// Tests all calls at events of a log of n workers, with scratch of each length. Gives the most visits of an event.
-fn at_events(random: &mut Random, description: &Description, form: u16, needed: [usize; 2]) -> u64 {
+fn at_events(random: &mut Random, description: &Description, form: u16, needed: usize) -> u64 {
     let n = description.workers.len();
     let log = description.pack_as(form);
     let mut visits = 0;
     for at in breakpoints(description) {
         let case = Case::new(random, &log, n, at);
         for length in lengths(n) {
+            let number = if length < needed { 15 } else { 0 };
             for scratch in contents(random, length) {
                 for name in CALLS {
-                    let is_short = length < needed_by(name, needed);
-                    let number = if is_short { 15 } else { 0 };
                     let first = case.gives(name, &scratch, number);
-                    if number == 0 && name != "sheet" {
+                    if number == 0 {
                         visits = visits.max(first);
                     }
                 }
@@ -289,10 +274,9 @@ fn other_refusals_with_any_scratch() {
         let [no_worker, none, past] = [(n as u32, 1), (0, 0), (0, count + 1)].map(case);
         let mut contents_of = random.clone();
         for length in lengths(n) {
+            let after = if length < needed { 15 } else { 27 };
             for scratch in contents(&mut contents_of, length) {
                 for name in CALLS {
-                    let is_short = length < needed_by(name, needed);
-                    let after = if is_short { 15 } else { 27 };
                     of_form_3.gives(name, &scratch, 2);
                     no_worker.gives(name, &scratch, 12);
                     none.gives(name, &scratch, 13);
@@ -330,8 +314,8 @@ fn no_event_of_one_worker() {
     }
 }
 
-/// One word is enough for one worker, or five for a sheet, but no call for an event comes to it: an accepted log of one worker has no
-/// events, so 13 refuses every event of worker 0, with no scratch too, and 12 every other worker.
+/// One word is enough for one worker, but no call comes to it: an accepted log of one worker has no events, so 13 refuses every event of
+/// worker 0, with no scratch too, and 12 every other worker.
 #[test]
 fn one_worker() {
     let random = &mut Random::new(2_400);

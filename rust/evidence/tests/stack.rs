@@ -1,9 +1,9 @@
 //! The stack of the exported calls: each gives its answers on a thread with 128 KiB, on logs that make it go deep; what the program `stack`
-//! prints of the visits and of the blocks of `intervals`; a sheet by the length of its list; and how the bytes are measured.
+//! prints of the visits and of the blocks of `intervals`; and how the bytes are measured.
 
-use evidence::description::{Worker, MAX_BREAKPOINTS, PLAN_WORDS};
+use evidence::description::Worker;
 use evidence::sides::{NAMES, REFERENCE};
-use evidence::stack::{block_bits, cases, listed, of_blocks, visited, OfVisits, PLACES, VISITED};
+use evidence::stack::{block_bits, cases, of_blocks, visited, OfVisits, PLACES, VISITED};
 use evidence::touched::touched;
 use std::hint::black_box;
 use std::process::Command;
@@ -79,25 +79,6 @@ fn blocks_of_intervals() {
     }
 }
 
-/// The plans of a list are made one after the other, so a sheet takes what its deepest plan does, whatever the length of the list. The words
-/// of the plan, three for each of the most workers, are on the stack, and the frame of the call.
-#[test]
-fn sheets_of_longer_lists() {
-    let [one, few, most] = [1, 16, MAX_BREAKPOINTS].map(|many| {
-        let case = listed(many);
-        assert_eq!(case.arguments.breakpoints.len(), 2 * many);
-        let answer = case.arguments.answer("sheet", &REFERENCE, &case.log);
-        assert_eq!(answer[0], 0);
-        [case.stack("sheet"), case.stack("plan")]
-    });
-    assert_eq!([few, most], [one; 2]);
-    let [sheet, plan] = one;
-    assert!(
-        sheet < plan + 2 * 4 * PLAN_WORDS,
-        "{sheet} bytes, and {plan} of a plan"
-    );
-}
-
 /// The largest send of a worker that the first events of another name.
 fn component(events: &Worker, event: u32, of: usize) -> u32 {
     let receives = events.events[..event as usize].iter();
@@ -129,7 +110,7 @@ fn open_visits() {
         cut[last] = event;
         assert_eq!(depth(&log, &mut cut, (last, event)), workers);
     }
-    for call in ["lower_cut", "plan", "sheet", "restore_and_replay"] {
+    for call in ["lower_cut", "plan", "restore_and_replay"] {
         let OfVisits { bytes, of_each, .. } = OfVisits::new(call);
         let [of_16, of_32, of_64] = bytes;
         assert_eq!(of_64 - of_32, 32 * of_each, "{call}: {bytes:?}");

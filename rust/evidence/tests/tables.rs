@@ -3,10 +3,10 @@
 //! counted here from the cut and the starts of each plan, those of the longest logs by hand.
 
 use evidence::compare::{
-    built_in_table, load_table, loaded_table, plan, restore_and_replay, sheet, Lengths, Room, State,
+    built_in_table, load_table, loaded_table, plan, restore_and_replay, Lengths, Room, State,
 };
 use evidence::description::{
-    put, sheet_words, Description, Event, Worker, MAX_EVENTS, MAX_WORKERS, TABLE_WORDS,
+    put, Description, Event, Worker, MAX_EVENTS, MAX_WORKERS, TABLE_WORDS,
 };
 use evidence::failure::{words, Call};
 use evidence::random::Random;
@@ -77,17 +77,12 @@ fn needed() -> Room {
     Room::needed(3, LIST.len())
 }
 
-/// Tests the loading of a table, and both plans and a sheet of the tube log with it, by the number that it has to have.
+/// Tests the loading of a table, and both plans of the tube log with it, by the number that it has to have.
 fn loads_by(table: &[u32], number: u32) {
-    let random = &mut Random::new(0);
-    assert_eq!(load_table(random, table), number, "{table:?}");
+    assert_eq!(load_table(&mut Random::new(0), table), number, "{table:?}");
     let log = Description::tube().pack();
     let found = plan_numbers(&log, (0, 2), table, needed());
     assert_eq!(found, [number; 2], "{table:?}");
-    for list in [&[][..], &[0, 2]] {
-        let (found, _) = sheet(random, &log, list, table, sheet_words(3));
-        assert_eq!(found, number, "{list:?}, {table:?}");
-    }
 }
 
 /// 0, 11, 13 and 24 words among others.

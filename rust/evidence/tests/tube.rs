@@ -4,8 +4,8 @@ use evidence::compare::State;
 use evidence::description::{set_form, Description, Event, Worker};
 use evidence::intervals::Named;
 use evidence::sides::{
-    Arguments, Calls, Covers, CutTest, Line, LowerCut, Plan, RestoreAndReplay, Sheet, Step, Steps,
-    Write, EXPORTED, NAMES, REFERENCE,
+    Arguments, Calls, Covers, CutTest, Line, LowerCut, Plan, RestoreAndReplay, Step, Steps, Write,
+    EXPORTED, NAMES, REFERENCE,
 };
 use reference::BUILT_IN;
 
@@ -83,36 +83,6 @@ fn t6_and_t7(form: u16, plan: Plan) {
         assert_eq!((number, words), (0, [2, 1, 1, 3, 1, 1, 2, 2, 1, 9]));
         assert_eq!(totals, [3, 3, logged_units, 7, 9]);
     }
-}
-
-/// Sheets of lists, by the built-in table: events, units and plans of each worker. The plan of 1/1 starts worker 1 at its cut, so it
-/// replays nothing; that of 2/3 replays no event of worker 0. With the data of worker 1's receive logged, the plan of 0/2 replays no event
-/// of worker 2.
-fn sheets(form: u16, sheet: Sheet) {
-    let (log, logged) = (tube(form), with_data_logged(form, &[RECEIVE_OF_2_2]));
-    for (log, list, rows) in [
-        (&log, &[][..], [0; 9]),
-        (&log, &[1, 1], [0; 9]),
-        (&log, &[0, 2], [1, 5, 1, 2, 6, 1, 2, 4, 1]),
-        (&log, &[0, 2, 0, 2, 1, 1], [2, 10, 2, 4, 12, 2, 4, 8, 2]),
-        (&log, &[1, 4, 0, 3, 2, 3], [4, 14, 2, 6, 18, 3, 5, 11, 3]),
-        (&logged, &[0, 2], [1, 5, 1, 2, 8, 1, 0, 0, 0]),
-    ] {
-        let mut words = [9; 10];
-        assert_eq!(sheet(log, list, &BUILT_IN, &mut words, &mut [9; 15]), 0);
-        assert_eq!((&words[..9], words[9]), (&rows[..], 9), "{list:?}");
-    }
-    let mut words = [9; 9];
-    let mut refused = |list: &[u32], table: &[u32], lent: usize, scratch: usize| {
-        sheet(&log, list, table, &mut words[..lent], &mut vec![9; scratch])
-    };
-    assert_eq!(refused(&[0, 2, 0], &[], 0, 0), 29);
-    assert_eq!(refused(&[0, 4, 3, 1], &[], 0, 0), 13);
-    assert_eq!(refused(&[3, 1, 0, 4], &[], 0, 0), 12);
-    assert_eq!(refused(&[0, 2], &[], 8, 0), 14);
-    assert_eq!(refused(&[0, 2], &[], 9, 14), 15);
-    assert_eq!(refused(&[0, 2], &[], 9, 15), 27);
-    assert_eq!(words, [9; 9]);
 }
 
 fn t8(log: &[u8], cut_test: CutTest) {
@@ -332,7 +302,6 @@ fn values(calls: &Calls) {
         t4(log, calls.lower_cut);
         t5(log, calls.upper_line);
         t6_and_t7(form, calls.plan);
-        sheets(form, calls.sheet);
         t8(log, calls.cut_test);
         t9(log, calls.step);
         t10(form, calls.covers);

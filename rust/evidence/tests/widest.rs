@@ -3,12 +3,11 @@
 
 use evidence::compare::{
     every_call, is_refused_by, loaded_table, lower_cut, pack_gives, packed, plan,
-    restore_and_replay, sheet, step, steps, upper_line, vector, Lengths, Replayed, Room, Seen,
-    State,
+    restore_and_replay, step, steps, upper_line, vector, Lengths, Replayed, Room, Seen, State,
 };
 use evidence::description::{
-    get, put, scratch, scratch_words, sheet_words, worker_count, Description, Event, Worker,
-    MAX_EVENTS, MAX_LOG, MAX_WORKERS,
+    get, put, scratch, scratch_words, worker_count, Description, Event, Worker, MAX_EVENTS,
+    MAX_LOG, MAX_WORKERS,
 };
 use evidence::failure::Call;
 use evidence::random::Random;
@@ -75,9 +74,6 @@ fn at_event(random: &mut Random, log: &[u8], worker: u32, event: u32, number: u3
     let table = loaded_table(random);
     let found = plan(random, log, worker, event, &table, lengths);
     returned(random, "plan", found);
-    let list = [worker, event, worker, event];
-    let (found, _) = sheet(random, log, &list, &table, sheet_words(n));
-    returned(random, "sheet", found);
     let found = upper_line(random, log, worker, event, n);
     returned(random, "upper_line", found);
 

@@ -91,8 +91,7 @@ fn the_same_log_without_their_records() {
         }
     }
     for (name, times) in NAMES.into_iter().zip(changed) {
-        let choosing = ["plan", "sheet", "covers", "restore_and_replay", "intervals"];
-        let chooses = choosing.contains(&name);
+        let chooses = ["plan", "covers", "restore_and_replay", "intervals"].contains(&name);
         assert!(chooses == (times > 0), "{name}: {changed:?}");
     }
 }

@@ -392,14 +392,8 @@ pub(crate) fn refuse_if(condition: bool, number: u32) -> Result<(), u32> {
 /// The refusals of a log, then 12 and 13, of a call that is given a log, a worker and an event; or the log and the worker.
 pub(crate) fn breakpoint(log: &[u8], worker: u32, event: u32) -> Result<(Log<'_>, usize), u32> {
     let log = accept(log)?;
-    let i = worker_of_event(&log, worker, event)?;
-    Ok((log, i))
-}
-
-/// The worker of an event that the log has, else 12 or 13.
-pub(crate) fn worker_of_event(log: &Log, worker: u32, event: u32) -> Result<usize, u32> {
     let i = worker as usize;
     refuse_if(i >= log.size(), 12)?;
     refuse_if(event == 0 || event > log.workers[i].count(), 13)?;
-    Ok(i)
+    Ok((log, i))
 }

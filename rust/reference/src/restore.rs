@@ -64,16 +64,10 @@ fn try_plan(
     Ok(())
 }
 
-/// The cut and the starts of the plan of event `event` of worker `i`, and the visits.
-pub(crate) fn planned(log: &Log, i: usize, event: u32) -> (Vec<u32>, Vec<Checkpoint>, u64) {
-    let (cut, visits) = figure2(log, i, event);
-    let starts = starts(log, &cut);
-    (cut, starts, visits)
-}
-
 /// Writes the plan of event `event` of worker `i` and its totals but for the units.
 pub(crate) fn write_plan(log: &Log, i: usize, event: u32, words: &mut [u32], totals: &mut [u64]) {
-    let (cut, starts, visits) = planned(log, i, event);
+    let (cut, visits) = figure2(log, i, event);
+    let starts = starts(log, &cut);
     let mut events = 0;
     for (w, start) in starts.iter().enumerate() {
         words[3 * w] = cut[w];

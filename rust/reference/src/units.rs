@@ -1,6 +1,6 @@
 //! Unit tables (document 02, note 7).
 
-use crate::log::{number, refuse_if, Log, Worker};
+use crate::log::{number, refuse_if, Log};
 
 /// The built-in table, that of document 01: role by role, and for each a send, a receive without data, a receive with data.
 pub const BUILT_IN: [u32; 12] = [2, 3, 5, 2, 4, 6, 3, 8, 9, 2, 5, 7];
@@ -38,13 +38,10 @@ fn try_built_in_table(table: &mut [u32]) -> Result<(), u32> {
 pub(crate) fn units(log: &Log, table: &Units, words: &[u32]) -> u64 {
     let workers = log.workers.iter().zip(words.as_chunks::<3>().0);
     workers
-        .map(|(worker, &[cut, start, _])| worker_units(worker, table, start, cut))
+        .map(|(worker, &[cut, start, _])| {
+            let row = table[worker.role as usize];
+            let kinds = worker.events(start, cut).map(|event| event.kind);
+            kinds.map(|kind| row[usize::from(kind) - 1]).sum::<u64>()
+        })
         .sum()
-}
-
-/// The units of the events of a worker after its start and within its cut.
-pub(crate) fn worker_units(worker: &Worker, table: &Units, start: u32, cut: u32) -> u64 {
-    let row = table[worker.role as usize];
-    let kinds = worker.events(start, cut).map(|event| event.kind);
-    kinds.map(|kind| row[usize::from(kind) - 1]).sum()
 }

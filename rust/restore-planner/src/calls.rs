@@ -5,8 +5,8 @@
 //! functions have no precondition, so any numbers and any slices are good. A refusal changes no lent word and no lent byte. On success
 //! those past the named ones are untouched; scratch alone is free.
 //!
-//! Where a call is lent scratch, it needs 2 × n words for a log of n workers, or one where n is 1; [`sheet`] needs 5 × n. More may be lent.
-//! What the scratch holds before the call does not matter; after a success it is free, and a refusal leaves it as it was.
+//! Where a call is lent scratch, it needs 2 × n words for a log of n workers, or one where n is 1. More may be lent. What the scratch holds
+//! before the call does not matter; after a success it is free, and a refusal leaves it as it was.
 //!
 //! This module has the declarations and all `unsafe` code of the crate. A slice is a pointer and then a length. The exported
 //! functions read and write within the slices that they are lent and keep none of them; nothing checks that the declarations here
@@ -67,19 +67,6 @@ mod exported {
             scratch_length: usize,
             totals: *mut u64,
             totals_length: usize,
-        ) -> u32;
-
-        pub fn sheet(
-            log: *const u8,
-            log_length: usize,
-            list: *const u32,
-            list_length: usize,
-            table: *const u32,
-            table_length: usize,
-            sheet: *mut u64,
-            sheet_length: usize,
-            scratch: *mut u32,
-            scratch_length: usize,
         ) -> u32;
 
         pub fn cut_test(
@@ -265,34 +252,6 @@ pub fn plan(
             scratch.len(),
             totals.as_mut_ptr(),
             totals.len(),
-        )
-    }
-}
-
-/// Writes the sheet of a list of breakpoints, worker and event each, to 3 × n words: for each worker the events that the plans of the list
-/// replay, their units by the unit table, and how many of the plans replay an event of it. A breakpoint that is listed twice counts twice,
-/// and the empty list gives zeros. 29, where the list has an odd number of words or more than 2,048, comes before 12; of the breakpoints
-/// that the log does not have, the earliest in the list decides between 12 and 13; 27 comes after 15.
-pub fn sheet(
-    log: &[u8],
-    list: &[u32],
-    table: &[u32],
-    sheet: &mut [u64],
-    scratch: &mut [u32],
-) -> u32 {
-    // SAFETY: each pointer goes with the length of its slice, which is borrowed for the whole call, alone where it is mutable.
-    unsafe {
-        exported::sheet(
-            log.as_ptr(),
-            log.len(),
-            list.as_ptr(),
-            list.len(),
-            table.as_ptr(),
-            table.len(),
-            sheet.as_mut_ptr(),
-            sheet.len(),
-            scratch.as_mut_ptr(),
-            scratch.len(),
         )
     }
 }

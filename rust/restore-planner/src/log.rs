@@ -2,7 +2,7 @@
 
 use crate::plan::Workers;
 use crate::replay::StepRecord;
-use crate::{calls, header, Breakpoint, LowerCut, Plan, Refusal, Restored, SheetRow, UnitTable};
+use crate::{calls, header, Breakpoint, LowerCut, Plan, Refusal, Restored, UnitTable};
 use std::fmt;
 
 /// An accepted log, of form 1 or 2, on bytes that it borrows. A log of form 1 may have two receives of one send. In a log of form 2 a
@@ -180,60 +180,6 @@ impl<'a> Log<'a> {
         Ok(Plan::new(&words, totals))
     }
 
-    /// The sheet of a list of up to 1,024 breakpoints, a row for each worker in order: how many events of the worker the plans of the list
-    /// replay, what these events cost by the table, and how many of the plans replay one. The sums are those of the single plans that
-    /// [`Log::plan`] gives, and the log is tested once for all of them.
-    ///
-    /// A breakpoint that is listed twice counts twice, and the empty list gives zeros.
-    ///
-    /// ```
-    /// use restore_planner::{Breakpoint, Log, Refusal, SheetRow, UnitTable};
-    ///
-    /// # let bytes = include_bytes!(concat!(env!("CARGO_MANIFEST_DIR"), "/examples/tube.log"));
-    /// let log = Log::new(bytes)?;
-    /// let at = |worker, event| Breakpoint { worker, event };
-    /// let table = UnitTable::default();
-    /// let rows = log.sheet(&[at(1, 4), at(0, 3), at(2, 3)], &table)?;
-    /// // The plan of 2/3 replays no event of worker 0.
-    /// assert_eq!(rows[0], SheetRow { events: 4, units: 14, plans: 2 });
-    /// assert_eq!(rows[1], SheetRow { events: 6, units: 18, plans: 3 });
-    /// assert_eq!(rows[2], SheetRow { events: 5, units: 11, plans: 3 });
-    ///
-    /// // The plan of 1/1 starts worker 1 at its cut, and replays nothing.
-    /// let rows = log.sheet(&[at(0, 2), at(0, 2), at(1, 1)], &table)?;
-    /// assert_eq!(rows[1], SheetRow { events: 4, units: 12, plans: 2 });
-    ///
-    /// assert_eq!(log.sheet(&[], &table)?, [SheetRow::default(); 3]);
-    /// assert_eq!(log.sheet(&[at(0, 4), at(3, 1)], &table), Err(Refusal::Event));
-    /// assert_eq!(log.sheet(&[at(0, 2); 1_025], &table), Err(Refusal::List));
-    /// # Ok::<(), Refusal>(())
-    /// ```
-    ///
-    /// # Errors
-    ///
-    /// [`Refusal::List`] where the list has more than 1,024 breakpoints, else [`Refusal::Worker`] or [`Refusal::Event`] of the earliest
-    /// breakpoint in the list that is no event of the log.
-    pub fn sheet(
-        &self,
-        breakpoints: &[Breakpoint],
-        table: &UnitTable,
-    ) -> Result<Vec<SheetRow>, Refusal> {
-        let list: Vec<u32> = breakpoints
-            .iter()
-            .flat_map(|at| [at.worker, at.event])
-            .collect();
-        let mut rows = vec![[0; 3]; self.workers];
-        let mut scratch = vec![0; 5 * self.workers];
-        Refusal::check(calls::sheet(
-            self.bytes,
-            &list,
-            table.words(),
-            rows.as_flattened_mut(),
-            &mut scratch,
-        ))?;
-        Ok(rows.iter().map(SheetRow::new).collect())
-    }
-
     /// The restore plan of a breakpoint, as [`Log::plan`] gives it, and one step for each worker number of the list from the planned
     /// starts.
     ///
@@ -406,7 +352,7 @@ impl<'a> Log<'a> {
         Ok(bytes)
     }
 
-    /// Scratch words for a lower cut or a plan, as many as it needs.
+    /// Scratch words for a call, as many as it needs.
     fn scratch(&self) -> Vec<u32> {
         let words = match self.workers {
             1 => 1,

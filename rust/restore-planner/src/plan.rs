@@ -90,28 +90,6 @@ impl Totals {
     }
 }
 
-/// What the plans of a list of breakpoints replay of one worker, from [`Log::sheet`](crate::Log::sheet).
-#[derive(Clone, Copy, Debug, Default, PartialEq, Eq, Hash)]
-pub struct SheetRow {
-    /// The events of the worker that are replayed, summed over the list.
-    pub events: u64,
-    /// What these events cost, in units by the [table](crate::UnitTable) of the call.
-    pub units: u64,
-    /// The number of plans that replay at least one event of the worker.
-    pub plans: u64,
-}
-
-impl SheetRow {
-    /// The row that a successful call wrote.
-    pub(crate) fn new(&[events, units, plans]: &[u64; 3]) -> SheetRow {
-        SheetRow {
-            events,
-            units,
-            plans,
-        }
-    }
-}
-
 /// A restore plan, from [`Log::plan`](crate::Log::plan).
 ///
 /// Other starts than the planned ones can be written here and tried by a [`Replay`](crate::Replay); the totals stay those of the

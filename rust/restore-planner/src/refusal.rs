@@ -5,10 +5,9 @@ use std::fmt;
 
 /// Why a log or an argument was not accepted.
 ///
-/// Of the conditions that apply, the one with the smallest number is given, where 24, 29, 28, 26 and 25 count, in this order, as being
-/// between 11 and 12. Of a list of breakpoints, the earliest one that is no event of the log decides between 12 and 13.
-/// [`Refusal::number`] is the number of document 01; 24 is that of document 02, note 1, 25 and 26 are those of note 2, 27 is that of
-/// note 7, 28 is that of note 9, and 29 is that of note 10.
+/// Of the conditions that apply, the one with the smallest number is given, where 24, 28, 26 and 25 count, in this order, as being
+/// between 11 and 12. [`Refusal::number`] is the number of document 01; 24 is that of document 02, note 1, 25 and 26 are those of note 2,
+/// 27 is that of note 7, and 28 is that of note 9.
 #[derive(Clone, Copy, Debug, PartialEq, Eq, Hash)]
 #[non_exhaustive]
 pub enum Refusal {
@@ -40,8 +39,7 @@ pub enum Refusal {
     Event,
     /// 14: there are fewer words than the call reads or writes.
     Words,
-    /// 15: the scratch has fewer than two words for each worker, or none where the log has one worker; for a sheet, fewer than five for
-    /// each.
+    /// 15: the scratch has fewer than two words for each worker, or none where the log has one worker.
     Scratch,
     /// 16: a cut is over its worker's event count; for a step, some worker is without start ≤ position ≤ cut ≤ event count.
     Cut,
@@ -55,15 +53,13 @@ pub enum Refusal {
     UnitTable,
     /// 28: two recorded checkpoints of a worker, not withdrawn, fall into one interval. It is tested after 24.
     Interval,
-    /// 29: the list of breakpoints has an odd number of words or more than 2,048. It is tested after 24 and before 12.
-    List,
     /// A number that this library does not know.
     Unlisted(u32),
 }
 
 impl Refusal {
     /// The refusals by rising number, [`Refusal::Unlisted`] excepted.
-    pub const LISTED: [Refusal; 22] = [
+    pub const LISTED: [Refusal; 21] = [
         Refusal::LogLength,
         Refusal::Form,
         Refusal::WorkerCount,
@@ -85,7 +81,6 @@ impl Refusal {
         Refusal::PackedLength,
         Refusal::UnitTable,
         Refusal::Interval,
-        Refusal::List,
     ];
 
     /// What the number of a call means, for numbers that come from [`calls`](crate::calls). A step's number has its own meanings:
@@ -104,7 +99,7 @@ impl Refusal {
             .unwrap_or(Refusal::Unlisted(number)))
     }
 
-    /// The number of document 01 or, for 24 to 29, of document 02.
+    /// The number of document 01 or, for 24 to 28, of document 02.
     pub fn number(self) -> u32 {
         match self {
             Refusal::LogLength => 1,
@@ -128,7 +123,6 @@ impl Refusal {
             Refusal::PackedLength => 26,
             Refusal::UnitTable => 27,
             Refusal::Interval => 28,
-            Refusal::List => 29,
             Refusal::Unlisted(number) => number,
         }
     }
@@ -169,10 +163,10 @@ impl Refusal {
             Refusal::Worker => "the log has no worker of this number; workers are numbered from 0",
             Refusal::Event => "the worker has no event of this number; events are numbered from 1",
             Refusal::Words => {
-                "too few words were given; a cut has one for each worker of the log, a plan and a sheet have one entry for each"
+                "too few words were given; a cut has one for each worker of the log, a plan has one entry for each"
             }
             Refusal::Scratch => {
-                "too little scratch was given; two words for each worker of the log are enough, or five for a sheet"
+                "too little scratch was given; two words for each worker of the log are enough"
             }
             Refusal::Cut => {
                 "a worker's cut is past its last event, or its position is not between its start and its cut"
@@ -189,9 +183,6 @@ impl Refusal {
             }
             Refusal::Interval => {
                 "two checkpoints of a worker, neither of them withdrawn, have no receive between them, so they fall into one interval"
-            }
-            Refusal::List => {
-                "the list of breakpoints has an odd number of words or more than 2,048: two for each of at most 1,024 breakpoints"
             }
             Refusal::Unlisted(_) => {
                 "the planner gave a number that this version of the library does not know"

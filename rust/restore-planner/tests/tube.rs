@@ -1,7 +1,7 @@
 //! The library on the tube log, and on bytes that are refused.
 
 use restore_planner::{
-    Advance, Breakpoint, Log, Plan, Refusal, Replay, SheetRow, Step, UnitTable, WorkerPlan,
+    Advance, Breakpoint, Log, Plan, Refusal, Replay, Step, UnitTable, WorkerPlan,
 };
 
 const TUBE: &[u8] = include_bytes!("../examples/tube.log");
@@ -32,7 +32,7 @@ fn refused(bytes: &[u8]) -> Refusal {
 #[test]
 fn refusals_have_the_numbers_of_documents_01_and_02() {
     let numbers: Vec<u32> = Refusal::LISTED.iter().map(|r| r.number()).collect();
-    assert_eq!(numbers, (1..=16).chain(24..=29).collect::<Vec<u32>>());
+    assert_eq!(numbers, (1..=16).chain(24..=28).collect::<Vec<u32>>());
     assert_eq!(Refusal::check(0), Ok(()));
     for refusal in Refusal::LISTED {
         assert_eq!(Refusal::check(refusal.number()), Err(refusal));
@@ -428,93 +428,6 @@ fn a_plan_by_other_unit_tables() {
     }
 }
 
-/// The rows of the sheet of a list with the built-in table: events, units, plans.
-fn sheet(log: &Log, list: &[Breakpoint]) -> Result<Vec<[u64; 3]>, Refusal> {
-    let rows = log.sheet(list, &UnitTable::default())?;
-    let words = |row: SheetRow| [row.events, row.units, row.plans];
-    Ok(rows.into_iter().map(words).collect())
-}
-
-/// The plan of 0/2 replays 0/2, 1/2 and 1/3, 2/1 and 2/2. That of 1/1 starts worker 1 at its cut, so it replays nothing. That of 1/4 adds
-/// 0/3 and 1/4 to those of 0/2, and that of 0/3 adds 0/3. That of 2/3 replays 2/3 and the send that it receives, 1/1.
-#[test]
-fn sheets() {
-    for bytes in [tube_of_form(1), tube_of_form(2), scattered_tube()] {
-        let log = Log::new(&bytes).unwrap();
-        for (list, rows) in [
-            (&[][..], [[0, 0, 0], [0, 0, 0], [0, 0, 0]]),
-            (&[at(1, 1)], [[0, 0, 0], [0, 0, 0], [0, 0, 0]]),
-            (&[at(0, 2)], [[1, 5, 1], [2, 6, 1], [2, 4, 1]]),
-            (&[at(2, 3)], [[0, 0, 0], [1, 2, 1], [1, 3, 1]]),
-            (&[at(2, 1)], [[0, 0, 0], [0, 0, 0], [1, 2, 1]]),
-            (
-                &[at(0, 2), at(0, 2), at(1, 1)],
-                [[2, 10, 2], [4, 12, 2], [4, 8, 2]],
-            ),
-            (
-                &[at(1, 4), at(0, 3), at(2, 3)],
-                [[4, 14, 2], [6, 18, 3], [5, 11, 3]],
-            ),
-            (
-                &[at(1, 4); 1_024],
-                [
-                    [2_048, 7_168, 1_024],
-                    [3_072, 10_240, 1_024],
-                    [2_048, 4_096, 1_024],
-                ],
-            ),
-        ] {
-            assert_eq!(sheet(&log, list), Ok(rows.to_vec()), "{list:?}");
-            let ones = log.sheet(list, &UnitTable::load(&[1; 12]).unwrap());
-            for (row, [events, _, plans]) in ones.unwrap().into_iter().zip(rows) {
-                let units = events;
-                assert_eq!(
-                    row,
-                    SheetRow {
-                        events,
-                        units,
-                        plans
-                    }
-                );
-            }
-        }
-    }
-}
-
-/// The earliest breakpoint that is no event of the log decides, and the length of the list before it.
-#[test]
-fn lists_that_are_refused() {
-    let log = tube();
-    for (list, refusal) in [
-        (vec![at(3, 1)], Refusal::Worker),
-        (vec![at(0, 4)], Refusal::Event),
-        (vec![at(0, 0), at(3, 1)], Refusal::Event),
-        (vec![at(3, 1), at(0, 0)], Refusal::Worker),
-        (vec![AT, AT, at(2, 4), at(u32::MAX, 0)], Refusal::Event),
-        (vec![at(u32::MAX, 0), AT], Refusal::Worker),
-        (vec![AT; 1_025], Refusal::List),
-        (vec![at(3, 1); 1_025], Refusal::List),
-    ] {
-        assert_eq!(sheet(&log, &list), Err(refusal), "{list:?}");
-    }
-    assert_eq!(Refusal::List.number(), 29);
-    assert_eq!(
-        Refusal::List.to_string(),
-        "the list of breakpoints has an odd number of words or more than 2,048: two for each of at most 1,024 breakpoints (refusal 29)"
-    );
-}
-
-/// An accepted log of one worker has no events.
-#[test]
-fn sheets_of_one_worker() {
-    let bytes = alone(1, &[6, 7]);
-    let log = Log::new(&bytes).unwrap();
-    assert_eq!(sheet(&log, &[]), Ok(vec![[0; 3]]));
-    assert_eq!(sheet(&log, &[at(0, 0)]), Err(Refusal::Event));
-    assert_eq!(sheet(&log, &[at(0, 1)]), Err(Refusal::Event));
-    assert_eq!(sheet(&log, &[at(1, 1)]), Err(Refusal::Worker));
-}
-
 #[test]
 fn events_that_the_log_does_not_have() {
     let log = tube();
@@ -528,7 +441,6 @@ fn events_that_the_log_does_not_have() {
         assert_eq!(log.lower_cut(at), Err(refusal));
         assert_eq!(log.upper_line(at), Err(refusal));
         assert_eq!(plan(&log, at), Err(refusal));
-        assert_eq!(sheet(&log, &[at]), Err(refusal));
         let restored = log.restore_and_replay(at, &[0; 5], &UnitTable::default());
         assert_eq!(restored, Err(refusal));
     }

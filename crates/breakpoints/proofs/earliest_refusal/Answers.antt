@@ -1,7 +1,6 @@
 -- `breakpoints::earliest_refusal` meets its contract: while no breakpoint before k has a number, none of them decides (`first_of_more`), and
 -- the first that has one does (`earliest_decides`). Assumes nothing.
 use mathlib.Core.Path.{sym, ◌∙◌}
-use Prim.Native.Nat.{◌-◌}
 use native.Mathlib.Nat.{le_antisymm}
 use native.Mathlib.Omega.{arith}
 use Rattle.lent.proofs.FirstOf.{first_of_none, first_of_more, first_of_zero}

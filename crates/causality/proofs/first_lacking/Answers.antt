@@ -1,6 +1,5 @@
 -- `causality::first_lacking` meets its contract: before turn k the send of every receive among events from + 1 .. k is within the cut; the
 -- first receive whose send is not ends the loop. Assumes nothing.
-use Prim.Native.Nat.{◌-◌}
 use native.Mathlib.Omega.{arith}
 use Rattle.ranges.proofs.First.{looked_none, looked_more, looked_found, looked_end}
 use Rattle.causality.proofs.first_lacking.Goals as goal

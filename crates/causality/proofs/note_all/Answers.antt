@@ -1,7 +1,6 @@
 -- `causality::note_all` meets its contract: before turn k the words are what events from + 1 .. k name of each worker, which is 0 for no
 -- events (`row_none`) and is kept by one event more (`row_more`). Assumes nothing.
 use mathlib.Core.Path.{sym, ◌∙◌}
-use Prim.Native.Nat.{◌-◌}
 use native.Mathlib.Nat.{le_antisymm}
 use native.Mathlib.Omega.{arith}
 use lib.ListN.{length-replicate}

@@ -1,10 +1,8 @@
 -- `causality::some_lacks` meets its contract: before turn w none of the first w workers has a receive within the cut whose send is not; the
 -- first worker that has one ends the loop with yes. Assumes nothing.
-use Prim.Native.Nat.{◌-◌}
 use native.Mathlib.Omega.{arith}
 use Rattle.ranges.proofs.Any.{sought_none, sought_more, sought_found, sought_end}
 use Rattle.accept.proofs.Accepted.{accepted_layout}
-use Rattle.causality.specs.Cut.{worker_lacks}
 use Rattle.refusals.proofs.Allowed.{under}
 use Rattle.causality.proofs.some_lacks.Goals as goal
 

@@ -1,7 +1,6 @@
 -- `causality::some_over_count` meets its contract: before turn w none of the first w words is over its worker's event count; the first word
 -- that is ends the loop with yes. Assumes nothing.
 use mathlib.Core.Path.{refl}
-use Prim.Native.Nat.{◌-◌}
 use native.Mathlib.Omega.{arith}
 use borrow.Author.Tests.{lt-ltb, le-ltb}
 use Rattle.ranges.proofs.Any.{sought_none, sought_more, sought_found, sought_end}

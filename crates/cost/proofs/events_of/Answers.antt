@@ -1,7 +1,6 @@
 -- `cost::events_of` meets its contract: after w turns `events` is the sum of cut minus start over the first w workers, and this fits 64
 -- bits (`held_worker`). Assumes nothing.
 use mathlib.Core.Path.{sym}
-use Prim.Native.Nat.{◌-◌}
 use native.Mathlib.Omega.{arith}
 use native.Mathlib.Nat.{le_antisymm}
 use Rattle.ranges.proofs.Sum.{sum_none}

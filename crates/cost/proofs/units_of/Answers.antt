@@ -1,7 +1,7 @@
 -- `cost::units_of` meets its contract: after w turns `units` is the sum of the units of the first w workers, and by a loaded table it fits
 -- 64 bits (`held_units`). Assumes nothing.
 use mathlib.Core.Path.{sym}
-use Prim.Native.Nat.{◌-◌, ◌<◌}
+use Prim.Native.Nat.{◌<◌}
 use native.Mathlib.Omega.{arith}
 use native.Mathlib.Nat.{le_antisymm}
 use Rattle.ranges.proofs.Sum.{sum_none, sum_more}

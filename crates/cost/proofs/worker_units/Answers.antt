@@ -1,7 +1,7 @@
 -- `cost::worker_units` meets its contract: up to event k `counts` is the number of receives without data after the start plus 2 ^ 32 times
 -- that of those with it; both are below 2 ^ 32, so remainder and quotient are these numbers. Assumes nothing.
 use mathlib.Core.Path.{◌≡◌, sym, ◌∙◌}
-use Prim.Native.Nat.{◌+◌, ◌-◌, ◌<◌}
+use Prim.Native.Nat.{◌+◌, ◌<◌}
 use native.Mathlib.Omega.{arith}
 use native.Mathlib.Nat.{le_antisymm}
 use Rattle.records.specs.declared.Event.{Event}

@@ -1,7 +1,6 @@
 -- `cost::write_starts` meets its contract: after w turns position v, for v below w, is word 3 × v + 1, the start of worker v, and the
 -- others are as lent. Assumes nothing.
 use mathlib.Core.Path.{refl, ◌∙◌}
-use Prim.Native.Nat.{◌-◌}
 use native.Mathlib.Omega.{arith}
 use lib.ListN.{length, length-set}
 use Rattle.ranges.specs.Fold.{tabulate}

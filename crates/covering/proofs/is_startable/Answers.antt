@@ -2,10 +2,9 @@
 -- the turn that finds one returns no, the end of the loop yes. Assumes nothing.
 use mathlib.Core.Path.{ap}
 use mathlib.Core.Bool.{not}
-use Prim.Native.Nat.{◌-◌}
 use Rattle.ranges.proofs.Any.{sought_none, sought_more, sought_found, sought_end}
 use Rattle.accept.proofs.Accepted.{accepted_layout}
-use Rattle.choice.specs.Choice.{worker_lost, is_startable}
+use Rattle.choice.specs.Choice.{is_startable}
 use Rattle.covering.proofs.is_startable.Goals as goal
 
 pub worker_count-n-requires : goal.worker_count-n-requires

@@ -1,13 +1,10 @@
 -- `covering::set_number` meets its contract: before each turn no checkpoint below number c has the identifier and may be chosen; the first
 -- that does, or else the number after the last, is `first_set`. Assumes nothing.
 use mathlib.Core.Path.{sym, ◌∙◌}
-use mathlib.Core.Bool.{false}
-use Prim.Native.Nat.{◌-◌}
 use native.Mathlib.Omega.{arith}
 use Rattle.ranges.proofs.Any.{any_none, any_more}
 use Rattle.ranges.proofs.First.{first_found, first_none}
 use Rattle.accept.proofs.Accepted.{accepted_layout}
-use Rattle.covering.specs.Covering.{is_set}
 use Rattle.covering.specs.Inner.Looked.{first_set}
 use Rattle.covering.proofs.set_number.Goals as goal
 

@@ -1,8 +1,8 @@
 -- `covering::some_without_set` meets its contract: after w turns each of the first w workers has a checkpoint that may be chosen and has
 -- the identifier, the first w words are their indices, and the others are as lent. Assumes nothing.
 use mathlib.Core.Path.{sym, ◌∙◌, ap}
-use mathlib.Core.Bool.{false, false≢true}
-use Prim.Native.Nat.{◌-◌, ◌<◌}
+use mathlib.Core.Bool.{false≢true}
+use Prim.Native.Nat.{◌<◌}
 use native.Mathlib.Omega.{arith}
 use native.Mathlib.Nat.{le_antisymm}
 use borrow.Author.Tests.{lt-ltb, le-ltb}

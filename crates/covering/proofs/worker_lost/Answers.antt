@@ -1,7 +1,6 @@
 -- `covering::worker_lost` meets its contract: after k turns none of the first k events is after the start and loses its send, and the cut
 -- of all events has all events of w (`all_at`). Assumes nothing.
 use mathlib.Core.Path.{sym, ◌∙◌}
-use Prim.Native.Nat.{◌-◌}
 use Rattle.ranges.proofs.Any.{sought_none, sought_more, sought_found, sought_end}
 use Rattle.accept.proofs.Accepted.{accepted_layout}
 use Rattle.choice.specs.Choice.{worker_lost}

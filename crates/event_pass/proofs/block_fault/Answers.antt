@@ -1,6 +1,5 @@
 -- `event_pass::block_fault` meets its contract: after w turns none of the first w workers has an event with a fault up to the end of its
 -- block; the turn that finds one returns yes, the end of the loop no. Assumes nothing.
-use Prim.Native.Nat.{◌-◌}
 use Rattle.ranges.proofs.Any.{any_each, sought_none, sought_more, sought_found, sought_end}
 use Rattle.event_pass.specs.Inner.Blocks.{some_within}
 use Rattle.event_pass.proofs.block_fault.Goals as goal

@@ -1,7 +1,7 @@
 -- `event_pass::listed_fault` meets its contract: after j turns each of the first j listed events is a receive that passes tests 9 and 10;
 -- the turn that finds another returns yes, the end of the loop no. Assumes nothing.
 use mathlib.Core.Path.{◌≡◌, refl, ◌∙◌, ap}
-use Prim.Native.Nat.{◌+◌, ◌-◌}
+use Prim.Native.Nat.{◌+◌}
 use native.Mathlib.Omega.{arith}
 use Rattle.ranges.proofs.Any.{sought_none, sought_more, sought_found, sought_end}
 use Rattle.lent.specs.Lent.{at}

@@ -1,10 +1,8 @@
 -- `event_pass::most_events` meets its contract: after w turns `most` is the largest event count of the first w workers, and by test 5 no
 -- count is over 65,535. Assumes nothing.
 use mathlib.Core.Path.{◌≡◌, sym, ◌∙◌}
-use Prim.Native.Nat.{◌-◌}
 use native.Mathlib.Omega.{arith}
 use Rattle.ranges.proofs.Max.{max_none, max_more, max_least}
-use Rattle.event_log.specs.Model.{event_count}
 use Rattle.event_log.proofs.Read.{count_field}
 use Rattle.event_pass.proofs.most_events.Goals as goal
 

@@ -1,8 +1,6 @@
 -- `event_pass::some_event` meets its contract: before each turn no event among the first `first` of any worker has a fault; once `first`
 -- reaches the largest event count these are all events (`within_all`). Assumes nothing.
 use mathlib.Core.Path.{sym, ◌∙◌}
-use mathlib.Core.Bool.{false}
-use Prim.Native.Nat.{◌-◌}
 use native.Mathlib.Omega.{arith}
 use Rattle.event_pass.proofs.Blocks.{within_none, within_found, within_all}
 use Rattle.event_pass.proofs.some_event.Goals as goal

@@ -1,7 +1,6 @@
 -- `lower_cut::workers_word` meets its contract: after w turns the word has the bits of the first w workers; bit w is not among them, so the
 -- bitwise or adds it (`word_more`). Assumes nothing.
 use mathlib.Core.Path.{sym, ◌∙◌}
-use Prim.Native.Nat.{◌-◌}
 use native.Mathlib.Nat.{le_antisymm}
 use native.Mathlib.Omega.{arith}
 use Rattle.lower_cut.proofs.WorkersWord.{word_none, word_more}

@@ -1,7 +1,6 @@
 -- `pack::packed_length` meets its contract: before turn w `at` is where the sections of worker w begin: where the header ends for worker 0,
 -- and one worker's sections further after each turn. Assumes nothing.
 use mathlib.Core.Path.{◌≡◌, sym, ◌∙◌}
-use Prim.Native.Nat.{◌-◌}
 use native.Mathlib.Omega.{arith}
 use native.Mathlib.Nat.{le_antisymm}
 use Rattle.pack.specs.Packed.{packed_length}

@@ -1,7 +1,6 @@
 -- `pack::write_entries` meets its contract: after w turns the entries of the first w workers stand behind the fields, every other byte is
 -- as lent, and `start` is where the sections of worker w begin. Assumes nothing.
 use mathlib.Core.Path.{sym, ◌∙◌}
-use Prim.Native.Nat.{◌-◌}
 use native.Mathlib.Omega.{arith}
 use Rattle.event_log.specs.Layout.{workers_of}
 use Rattle.pack.specs.Packed.{numbers_of, entry_of}

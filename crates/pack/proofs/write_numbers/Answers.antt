@@ -1,7 +1,6 @@
 -- `pack::write_numbers` meets its contract: after j turns the first j numbers stand from `at` on in 4 bytes each, and every other byte is
 -- as lent. Assumes nothing.
 use mathlib.Core.Path.{refl}
-use Prim.Native.Nat.{◌-◌}
 use native.Mathlib.Omega.{arith}
 use Rattle.pack.specs.Packed.{number_at}
 use Rattle.pack.proofs.Header.{numbers_long}

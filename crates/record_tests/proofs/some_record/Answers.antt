@@ -1,8 +1,7 @@
 -- `record_tests::some_record` meets its contract: after w turns none of the first w workers has a record with the fault; the turn that
 -- finds one returns yes, the end of the loop no. Assumes nothing.
-use Prim.Native.Nat.{◌-◌}
 use Rattle.ranges.proofs.Any.{sought_none, sought_more, sought_found, sought_end}
-use Rattle.record_tests.specs.Records.{worker_fault, some_record}
+use Rattle.record_tests.specs.Records.{some_record}
 use Rattle.record_tests.proofs.some_record.Goals as goal
 
 pub loop-w-init : goal.loop-w-init

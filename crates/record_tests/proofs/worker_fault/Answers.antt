@@ -1,8 +1,7 @@
 -- `record_tests::worker_fault` meets its contract: after k turns none of the first k records that the test looks at has the fault; the turn
 -- that finds one returns yes, the end no. Assumes nothing.
-use Prim.Native.Nat.{◌-◌}
 use Rattle.ranges.proofs.Any.{sought_none, sought_more, sought_found, sought_end}
-use Rattle.record_tests.specs.Records.{record_fault, worker_fault}
+use Rattle.record_tests.specs.Records.{worker_fault}
 use Rattle.record_tests.proofs.worker_fault.Goals as goal
 
 pub loop-k-init : goal.loop-k-init

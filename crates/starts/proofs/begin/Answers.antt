@@ -1,7 +1,7 @@
 -- `starts::begin` meets its contract: after w turns each of the first w workers has its latest checkpoint within the cut that may
 -- be chosen, with no event looked at yet; no startable choice has a later start (`begun_all`). Assumes nothing.
 use mathlib.Core.Path.{sym, ◌∙◌}
-use Prim.Native.Nat.{◌+◌, ◌-◌, ◌*◌, ◌<◌, ◌≤◌}
+use Prim.Native.Nat.{◌+◌, ◌*◌, ◌<◌, ◌≤◌}
 use native.Mathlib.Omega.{arith}
 use native.Mathlib.Nat.{le_antisymm}
 use lib.ListN.{length}

@@ -1,6 +1,6 @@
 -- `starts::finish` meets its contract: after w turns the third word of each of the first w workers is the identifier of the
 -- checkpoint whose number stood there, and every other word is as before. Assumes nothing.
-use Prim.Native.Nat.{◌+◌, ◌-◌, ◌*◌, ◌≤◌}
+use Prim.Native.Nat.{◌+◌, ◌*◌, ◌≤◌}
 use native.Mathlib.Omega.{arith}
 use native.Mathlib.Nat.{le_antisymm}
 use lib.ListN.{length}

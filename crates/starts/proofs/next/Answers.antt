@@ -1,7 +1,5 @@
 -- `starts::next` meets its contract: before turn w none of the first w workers has an event left to look at; the first that has is
 -- returned, and n where none has. Assumes nothing.
-use mathlib.Core.Bool.{false}
-use Prim.Native.Nat.{◌-◌}
 use native.Mathlib.Omega.{arith}
 use borrow.Author.Tests.{lt-ltb, le-ltb}
 use Rattle.ranges.proofs.First.{first_found, first_none}

@@ -5,8 +5,6 @@ use Prim.Native.Nat.{◌<◌}
 use Rattle.event_log.specs.Layout.{workers_of}
 use Rattle.event_log.specs.Model.{worker_count}
 use Rattle.accept.proofs.Accepted.{accepted_layout, well_formed}
-use Rattle.lent.specs.Lent.{at}
-use Rattle.starts.specs.Inner.Rollback.{pending}
 use Rattle.starts.proofs.Settling.{rolling_cut, looked_less, first_pending, settled}
 use Rattle.starts.proofs.settle.Goals as goal
 

@@ -1,10 +1,8 @@
 -- `unit_table::some_unit_fault` meets its contract: after k turns none of the first k words is outside 1 to 1,000; the turn that finds one
 -- returns yes, the end of the loop no. Assumes nothing.
 use mathlib.Core.Path.{refl}
-use Prim.Native.Nat.{◌-◌}
 use native.Mathlib.Omega.{arith}
 use Rattle.ranges.proofs.Any.{sought_none, sought_more, sought_found, sought_end}
-use Rattle.unit_table.specs.Table.{unit_fault}
 use Rattle.unit_table.proofs.some_unit_fault.Goals as goal
 
 pub loop-k-init : goal.loop-k-init

@@ -1,7 +1,6 @@
 -- `unit_table::write_built_in` meets its contract: after j turns word i, for i below j, is that of row i / 3 and column i % 3; all 12 are
 -- `built_in_words`, and these load (`built_in_loads`). Assumes nothing.
 use mathlib.Core.Path.{◌≡◌, refl, ◌∙◌}
-use Prim.Native.Nat.{◌-◌}
 use native.Mathlib.Omega.{arith}
 use native.Mathlib.Nat.{le_antisymm}
 use lib.ListN.{length-set}

@@ -10,27 +10,23 @@
 //! `intervals` is the conversion of the same logs without the checkpoints that 28 refuses.
 //! `covers` is the test of an identifier that covers; of any other one it ends at the first receive that is lost. The plan is given the
 //! built-in unit table.
-//! `sheet_16` and `sheet_1024` are sheets of lists of so many breakpoints, spread over the log, beside the reference and beside the same
-//! exported plans made one by one, each of which tests the log again. The longer list is timed on the first log of each input alone, and of
-//! the families other than runs on the shorter logs; of its single plans on the longest runs one in 16 is timed, and the time taken 16 times.
 //!
 //! At the end the test of the log and the plan are timed on form 2 beside form 1 of the same logs, in the same place in memory;
 //! `cargo run --release --bin bench forms` times nothing else, and `bench pack` only the calls whose names begin so. Behind that stands the
 //! plan of a log with 1,024 withdrawn checkpoints in each worker (`bench withdrawn`), then the conversion to an interval log of runs that
-//! grow, each beside the first, and of logs whose receives name any of 65,535 sends (`bench growth`), the sheets of lists that grow, of one
-//! run (`bench lists`), and last what each call is lent and takes of the stack (`bench memory`).
+//! grow, each beside the first, and of logs whose receives name any of 65,535 sends (`bench growth`), and last what each call is lent and
+//! takes of the stack (`bench memory`).
 
 use evidence::compare::State;
 use evidence::description::{
-    scratch, set_form, sheet_words, worker_count, Description, MARK, MAX_EVENTS, MAX_LOG,
-    MAX_WORKERS, PLAN_WORDS,
+    scratch, set_form, Description, MARK, MAX_EVENTS, MAX_LOG, MAX_WORKERS, PLAN_WORDS,
 };
 use evidence::random::Random;
 use evidence::runs::{
     chain, deep, different_sends, hub, received_from_one, ring, run, shared_sends, two_level_hub,
     wide_chain, Shape,
 };
-use evidence::sides::{Sheet, NAMES};
+use evidence::sides::NAMES;
 use evidence::stack::{cases, of_forms};
 use reference::BUILT_IN;
 use restore_planner::calls;
@@ -448,39 +444,13 @@ fn main() {
             print_forms();
             print_withdrawn();
             print_growth();
-            print_lists();
             print_memory();
         }
         Some("forms") => print_forms(),
         Some("withdrawn") => print_withdrawn(),
         Some("growth") => print_growth(),
-        Some("lists") => print_lists(),
         Some("memory") => print_memory(),
         Some(start) => drop(print_calls(start)),
-    }
-}
-
-/// Of each call the largest ratio, and where it is.
-type Worst = Vec<(&'static str, f64, String)>;
-
-/// Keeps the ratio of a call where it is the largest.
-fn keep_largest(worst: &mut Worst, call: &'static str, ratio: f64, name: &str) {
-    match worst.iter_mut().find(|(other, ..)| *other == call) {
-        Some(entry) if entry.1 < ratio => *entry = (call, ratio, name.to_string()),
-        Some(_) => (),
-        None => worst.push((call, ratio, name.to_string())),
-    }
-}
-
-/// Prints the largest ratio of each call, where there are any.
-fn print_worst(ratio: &str, worst: &Worst) {
-    if worst.is_empty() {
-        return;
-    }
-    println!();
-    println!("largest {ratio} of each call:");
-    for (call, ratio, name) in worst {
-        println!("  {call:<12} {ratio:>6.2}  {name}");
     }
 }
 
@@ -490,16 +460,13 @@ fn print_calls(start: &str) -> Vec<(String, f64, f64)> {
     println!("exported, reference, pass: microseconds, the least of many runs; pass is the sum of the log's bytes");
     println!("exp/pass: nanoseconds an event over those of the plain pass");
     println!("growth: time over that of the same call on the family's next smaller log, divided by the growth in bytes (1.00: linear)");
-    println!("plans: the exported plans of a list one by one; of 1,024 on the longest runs the time of 64 of them, taken 16 times");
-    let (mut worst, mut worst_lists) = (Worst::new(), Worst::new());
+    let mut worst: Vec<(&str, f64, String)> = Vec::new();
     let mut accepting: Vec<(String, f64, f64)> = Vec::new();
     for family in families() {
         let mut smaller: Vec<Times> = Vec::new();
-        let mut smaller_lists: Vec<(&str, ListTimes)> = Vec::new();
         let mut bytes_before = 0.0;
         for input in family {
             let (bytes, events) = print_input(&input);
-            let name = format!("{}, {events:.0} events", input.name);
             let mut rows = Vec::new();
             let named = CALLS.iter().filter(|(call, ..)| call.starts_with(start));
             for (at, &(call, exported, reference)) in named.enumerate() {
@@ -523,257 +490,24 @@ fn print_calls(start: &str) -> Vec<(String, f64, f64)> {
                 if call == "log_refusal" {
                     accepting.push((input.name.clone(), events, own * 1e3 / events));
                 }
-                keep_largest(&mut worst, call, ratio, &name);
+                let name = format!("{}, {events:.0} events", input.name);
+                match worst.iter_mut().find(|(other, ..)| *other == call) {
+                    Some(entry) if entry.1 < ratio => *entry = (call, ratio, name),
+                    Some(_) => (),
+                    None => worst.push((call, ratio, name)),
+                }
                 rows.push(times);
             }
-            let lists = print_sheets(&input, start, &smaller_lists, bytes / bytes_before);
-            for &(call, times) in &lists {
-                keep_largest(&mut worst, call, times.over_reference(), &name);
-                keep_largest(&mut worst_lists, call, times.over_plans(), &name);
-            }
             smaller = rows;
-            smaller_lists = lists;
             bytes_before = bytes;
         }
     }
-    print_worst("exp/ref", &worst);
-    print_worst("exp/plans", &worst_lists);
-    accepting
-}
-
-/// The breakpoints of a short list, and of the longest.
-const FEW: usize = 16;
-const MOST: usize = 1_024;
-
-/// The sheets that are timed, with the lengths of their lists.
-const SHEETS: [(&str, usize); 2] = [("sheet_16", FEW), ("sheet_1024", MOST)];
-
-/// On logs with more events than this, the longest list is timed for runs alone, and not all of its single plans.
-const MANY_EVENTS: usize = 100_000;
-
-/// One in how many of the single plans of a list of so many breakpoints is timed.
-fn one_in(events: usize, many: usize) -> usize {
-    if events > MANY_EVENTS && many > FEW {
-        16
-    } else {
-        1
-    }
-}
-
-/// One in so many of the breakpoints of a list.
-fn part(list: &[u32], one_in: usize) -> Vec<u32> {
-    let (breakpoints, _) = list.as_chunks::<2>();
-    let timed = breakpoints.iter().skip(one_in / 2).step_by(one_in);
-    timed.flatten().copied().collect()
-}
-
-/// The words of so many breakpoints spread over a log: the workers that have events in turn, each at an event farther on among its own.
-fn spread(log: &[u8], many: usize) -> Vec<u32> {
-    let accepted = reference::accept(log).expect("an accepted log");
-    let counts = accepted.workers.iter().map(|w| w.count() as usize);
-    let workers: Vec<(usize, usize)> = counts.enumerate().filter(|&(_, c)| c > 0).collect();
-    let breakpoint = |k: usize| {
-        // A prime that divides no number of workers here, so that short lists too have workers of all kinds.
-        let (worker, count) = workers[37 * k % workers.len()];
-        [worker as u32, (count * (k + 1)).div_ceil(many) as u32]
-    };
-    (0..many).flat_map(breakpoint).collect()
-}
-
-/// The least times of an exported sheet, of the reference's and of the exported plans of its list one by one.
-#[derive(Clone, Copy)]
-struct ListTimes {
-    exported: Duration,
-    reference: Duration,
-    plans: Duration,
-}
-
-impl ListTimes {
-    fn over_reference(&self) -> f64 {
-        micros(self.exported) / micros(self.reference)
-    }
-
-    fn over_plans(&self) -> f64 {
-        micros(self.exported) / micros(self.plans)
-    }
-}
-
-/// The time of one call, of one time through all cases with their lists. Fails where a call is refused.
-fn once(
-    cases: &[Case],
-    lists: &[Vec<u32>],
-    mut call: impl FnMut(&Case, &[u32]) -> u32,
-) -> Duration {
-    let start = Instant::now();
-    for (case, list) in cases.iter().zip(lists) {
-        assert_eq!(black_box(call(case, list)), 0, "the number returned");
-    }
-    start.elapsed() / cases.len() as u32
-}
-
-/// Makes the exported plans of a list one by one; gives the largest number.
-fn plan_each(case: &Case, list: &[u32], to: &mut Words) -> u32 {
-    let Words {
-        words,
-        scratch,
-        totals,
-        ..
-    } = to;
-    let plans = list.chunks(2).map(|at| {
-        let (worker, event) = (at[0], at[1]);
-        calls::plan(&case.log, worker, event, &BUILT_IN, words, scratch, totals)
-    });
-    plans.max().unwrap_or(0)
-}
-
-/// Times sheets of lists of this length, one list for each of these cases of an input, and then their single plans.
-fn measure_list(input: &Input, cases: &[Case], many: usize) -> ListTimes {
-    let lists: Vec<Vec<u32>> = cases.iter().map(|case| spread(&case.log, many)).collect();
-    let one_in = one_in(cases[0].events, many);
-    let parts: Vec<Vec<u32>> = lists.iter().map(|list| part(list, one_in)).collect();
-    let [exported, reference] = measure_sheets(cases, &lists);
-    ListTimes {
-        exported,
-        reference,
-        plans: measure_plans(input, cases, &parts) * one_in as u32,
-    }
-}
-
-/// The least time of the exported plans one by one, of runs for 100 ms and three times at least.
-fn measure_plans(input: &Input, cases: &[Case], parts: &[Vec<u32>]) -> Duration {
-    let mut to = Words::new(input);
-    let mut best = Duration::MAX;
-    let start = Instant::now();
-    let mut rounds = 0;
-    while rounds < 3 || start.elapsed() < Duration::from_millis(100) {
-        let taken = once(cases, parts, |c, list| plan_each(c, list, &mut to));
-        best = taken.min(best);
-        rounds += 1;
-    }
-    black_box((to.words, to.scratch, to.totals));
-    best
-}
-
-/// The least times of the exported sheets and of the reference's, run in turn for 300 ms and three times at least.
-fn measure_sheets(cases: &[Case], lists: &[Vec<u32>]) -> [Duration; 2] {
-    let (words, scratch) = sheet_words(worker_count(&cases[0].log));
-    let mut lent = [(); 2].map(|()| (vec![0; words], vec![0; scratch]));
-    let sides: [Sheet; 2] = [calls::sheet, reference::sheet];
-    let mut best = [Duration::MAX; 2];
-    let start = Instant::now();
-    let mut rounds = 0;
-    while rounds < 3 || start.elapsed() < Duration::from_millis(300) {
-        for ((least, sheet_of), (sheet, scratch)) in best.iter_mut().zip(sides).zip(&mut lent) {
-            let taken = once(cases, lists, |c, list| {
-                sheet_of(&c.log, list, &BUILT_IN, sheet, scratch)
-            });
-            *least = taken.min(*least);
-        }
-        assert_eq!(lent[0].0, lent[1].0, "the sheets of the last case");
-        rounds += 1;
-    }
-    best
-}
-
-/// Prints the sheets whose names begin so of an input, beside the single plans of their lists; gives their times. The growth is that from
-/// `before`, divided by the growth in bytes.
-fn print_sheets(
-    input: &Input,
-    start: &str,
-    before: &[(&str, ListTimes)],
-    bytes: f64,
-) -> Vec<(&'static str, ListTimes)> {
-    let events = input.cases.iter().map(|case| case.events).max();
-    let is_short = events.unwrap_or(0) <= MANY_EVENTS || input.name.starts_with("run");
-    let is_named =
-        |&(call, many): &(&str, usize)| call.starts_with(start) && (many <= FEW || is_short);
-    let named: Vec<(&str, usize)> = SHEETS.into_iter().filter(is_named).collect();
-    if !named.is_empty() {
-        println!(
-            "  {:<12} {:>9} {:>9} {:>9} {:>8} {:>9} {:>8} {:>13} {:>14}",
-            "list",
-            "exported",
-            "reference",
-            "plans",
-            "exp/ref",
-            "exp/plans",
-            "us/plan",
-            "growth of exp",
-            "growth of ref"
-        );
-    }
-    let row = |(call, many)| {
-        // A log that is read so many times is learnt anyway.
-        let cases = if many > FEW {
-            &input.cases[..1]
-        } else {
-            &input.cases
-        };
-        let times = measure_list(input, cases, many);
-        let before = before.iter().find(|(other, _)| *other == call);
-        print_row_of_list(call, many, &times, before.map(|(_, times)| times), bytes);
-        (call, times)
-    };
-    named.into_iter().map(row).collect()
-}
-
-/// Prints the times of a sheet.
-fn print_row_of_list(
-    call: &str,
-    many: usize,
-    times: &ListTimes,
-    before: Option<&ListTimes>,
-    bytes: f64,
-) {
-    let growths = match before {
-        Some(before) => [
-            growth(times.exported, before.exported, bytes),
-            growth(times.reference, before.reference, bytes),
-        ],
-        None => ["-", "-"].map(str::to_string),
-    };
-    println!(
-        "  {call:<12} {:>9.1} {:>9.1} {:>9.1} {:>8.2} {:>9.2} {:>8.2} {:>13} {:>14}",
-        micros(times.exported),
-        micros(times.reference),
-        micros(times.plans),
-        times.over_reference(),
-        times.over_plans(),
-        micros(times.exported) / many as f64,
-        growths[0],
-        growths[1],
-    );
-}
-
-/// Prints sheets of lists that grow, of one run: by the breakpoint, without the test of the log, each over the first.
-fn print_lists() {
-    let input = runs(
-        &format!("run {MAX_WORKERS} workers"),
-        &Shape::long(MAX_WORKERS, 80_000),
-    );
-    let test = CALLS.iter().find(|(call, ..)| *call == "log_refusal");
-    let &(_, exported, reference) = test.expect("the test of the log");
-    let test = micros(measure(&input, exported, reference).exported);
     println!();
-    println!("sheets of lists that grow: microseconds, the least of many runs; a breakpoint: without the test of the log; over the first: 1.00 is linear");
-    println!(
-        "  {}, {:.0} events; the test of the log {test:.1}",
-        input.name,
-        mean(&input, |c| c.events)
-    );
-    let mut first = None;
-    for many in [FEW, 64, 256, MOST] {
-        let times = measure_list(&input, &input.cases, many);
-        let each = (micros(times.exported) - test) / many as f64;
-        println!(
-            "  list of {many:>5} exported {:>9.1} reference {:>9.1} exp/ref {:.2} exp/plans {:.2} a breakpoint {each:>6.1} over the first {:.2}",
-            micros(times.exported),
-            micros(times.reference),
-            times.over_reference(),
-            times.over_plans(),
-            each / *first.get_or_insert(each)
-        );
+    println!("largest exp/ref of each call:");
+    for (call, ratio, name) in worst {
+        println!("  {call:<12} {ratio:>6.2}  {name}");
     }
+    accepting
 }
 
 /// The test of the log on a run over that on a ring of about as many events: 1 where it has no branch that a run makes unpredictable.
@@ -1045,7 +779,7 @@ fn print_memory() {
         cases.len()
     );
     println!(
-        "totals: two words each, the words of a sheet too; a step: words for each step of a list; out: a packed log of {} bytes, an interval log of {}",
+        "totals: two words each; a step: words for each step of a list; out: a packed log of {} bytes, an interval log of {}",
         case.arguments.packed.0, case.arguments.converted.0
     );
     println!(

@@ -91,7 +91,7 @@ fn print_visits() {
         "  {:<18} {few:>10} {more:>10} {most:>10} {:>10} {:>11}",
         "call", "each visit", "128 workers"
     );
-    for call in ["lower_cut", "plan", "sheet", "restore_and_replay"] {
+    for call in ["lower_cut", "plan", "restore_and_replay"] {
         let OfVisits {
             bytes: [few, more, most],
             of_each,

@@ -2,7 +2,6 @@
 -- copied from the row are the next ones that are not idle (`Going`); a turn fills the row again, passes over a worker that the cut has
 -- covered since, or visits below. Assumes nothing.
 use mathlib.Core.Path.{refl, sym, ◌∙◌, ap}
-use Prim.Native.Nat.{◌-◌}
 use native.Mathlib.Omega.{arith}
 use lib.ListN.{length-take, length-drop}
 use lib.Seq.{length-take-le}

@@ -1,7 +1,6 @@
 -- `lower_cut::figure2::next_turns` meets its contract: before worker w is looked at, the j turns copied are the first j from v on, and no
 -- worker after the last of them and before w has a component above the cut; the list ends at 16, or with n behind it. Assumes nothing.
 use mathlib.Core.Path.{refl, sym, ◌∙◌}
-use Prim.Native.Nat.{◌-◌}
 use native.Mathlib.Omega.{arith}
 use lib.ListN.{length-set}
 use Rattle.lower_cut.proofs.Copied.{copying_none, copying_past, copying_more, copying_stop, copying_all}
