@@ -1,11 +1,10 @@
 -- Demand 3 holds of the plan of every accepted log and breakpoint event, with every list of worker numbers. Assumes nothing.
 use mathlib.Core.Path.{◌≡◌, refl, sym, ◌∙◌, ap}
 use mathlib.Core.List.{List}
-use Prim.Native.Nat.{ℕ, ◌+◌, ◌*◌, ◌<◌}
+use Prim.Native.Nat.{ℕ, ◌<◌}
 use native.Mathlib.Omega.{arith}
 use lib.ListN.{length, get_or}
 use Rattle.ranges.proofs.Tabulate.{get_d_tabulate}
-use Rattle.lent.specs.Lent.{at}
 use Rattle.records.specs.declared.Checkpoint.{Checkpoint}
 use Rattle.event_log.specs.Model.{Workers, worker_count, IsEvent}
 use Rattle.records.specs.Checkpoint.{initial}

@@ -1,6 +1,6 @@
 -- Demand 3: the restore plan is the latest that works, stated once, of the words that one call leaves.
 -- Assumes nothing.
-use Rattle.std.specs.Prelude.{◌≡◌, ◌↔◌, ◌⊎◌, ◌≢◌, List, ℕ, ◌+◌, ◌*◌, ◌<◌, ◌≤◌, get_or}
+use Rattle.std.specs.Prelude.{◌≡◌, ◌↔◌, ◌⊎◌, ◌≢◌, List, ℕ, ◌+◌, ◌<◌, ◌≤◌, get_or}
 use Rattle.lent.specs.Lent.{at}
 use Rattle.records.specs.declared.Checkpoint.{Checkpoint}
 use Rattle.event_log.specs.Model.{Workers, worker_count, IsEvent}

@@ -1,6 +1,6 @@
 -- `interval_blocks::all_blocks` meets its contract: before each turn `blocks` is the sum over the first w workers. Assumes nothing.
 use mathlib.Core.Path.{◌≡◌, sym, ◌∙◌}
-use Prim.Native.Nat.{◌+◌, ◌-◌}
+use Prim.Native.Nat.{◌+◌}
 use native.Mathlib.Nat.{le_antisymm}
 use native.Mathlib.Omega.{arith}
 use Rattle.event_log.specs.Layout.{workers_of}

@@ -1,7 +1,7 @@
 -- `interval_blocks::fill` meets its contract: before each turn the rows of the first w workers are in the table, their places are in `firsts`,
 -- and `first` is where the next row begins. Assumes nothing.
 use mathlib.Core.Path.{◌≡◌, refl, ◌∙◌}
-use Prim.Native.Nat.{◌+◌, ◌-◌}
+use Prim.Native.Nat.{◌+◌}
 use native.Mathlib.Nat.{le_antisymm}
 use native.Mathlib.Omega.{arith}
 use lib.ListN.{length-set}

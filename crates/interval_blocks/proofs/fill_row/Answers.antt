@@ -1,7 +1,6 @@
 -- `interval_blocks::fill_row` meets its contract: before turn j `from` is where block j begins, the last event where there is no such block,
 -- `number` is its interval, and the first j blocks are in the table. Assumes nothing.
 use mathlib.Core.Path.{◌≡◌, refl, sym, ap}
-use Prim.Native.Nat.{◌-◌}
 use native.Mathlib.Nat.{le_antisymm}
 use native.Mathlib.Omega.{arith}
 use lib.ListN.{length-set}

@@ -2,7 +2,7 @@
 -- is as lent, and `start` is where the sections of worker w begin; its counts are the receives up to its last event and the checkpoints that
 -- are not withdrawn. Assumes nothing.
 use mathlib.Core.Path.{◌≡◌, sym, ◌∙◌}
-use Prim.Native.Nat.{◌+◌, ◌*◌, ◌-◌, ◌<◌}
+use Prim.Native.Nat.{◌+◌, ◌*◌, ◌<◌}
 use native.Mathlib.Omega.{arith}
 use mir.Syntax.{w64}
 use mir.Val.{Fits}

@@ -1,7 +1,7 @@
 -- `interval_log::write_sections` meets its contract: after w turns the sections of the first w workers stand behind the header without gaps,
 -- every other byte is as lent, and `at` is where those of worker w begin. Assumes nothing.
 use mathlib.Core.Path.{sym, ◌∙◌}
-use Prim.Native.Nat.{◌-◌, ◌<◌}
+use Prim.Native.Nat.{◌<◌}
 use native.Mathlib.Omega.{arith}
 use Rattle.event_log.specs.Model.{worker_count}
 use Rattle.event_log.specs.Layout.{workers_of}

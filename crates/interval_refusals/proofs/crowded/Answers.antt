@@ -1,9 +1,8 @@
 -- `interval_refusals::crowded` meets its contract: after w turns none of the first w workers is crowded, since `worker_crowded` said no of
 -- each of them. Assumes nothing.
-use Prim.Native.Nat.{◌-◌}
 use Rattle.ranges.proofs.Any.{sought_none, sought_more, sought_found, sought_end}
 use Rattle.accept.proofs.Accepted.{accepted_layout}
-use Rattle.interval_refusals.specs.Calls.{worker_crowded, crowded}
+use Rattle.interval_refusals.specs.Calls.{crowded}
 use Rattle.interval_refusals.proofs.crowded.Goals as goal
 
 pub returns-then-worker_crowded : goal.returns-then-worker_crowded

@@ -1,7 +1,6 @@
 -- `interval_refusals::interval_length` meets its contract: before turn w `length` is where the sections of worker w begin in the interval log:
 -- where the header ends for worker 0, and one worker's sections further after each turn. Assumes nothing.
 use mathlib.Core.Path.{◌≡◌, sym, ◌∙◌}
-use Prim.Native.Nat.{◌-◌}
 use native.Mathlib.Omega.{arith}
 use native.Mathlib.Nat.{le_antisymm}
 use Rattle.event_log.specs.Layout.{workers_of}

@@ -1,7 +1,6 @@
 -- `interval_refusals::kept_count` meets its contract: before each turn `kept` counts those of the first k checkpoints that are not withdrawn,
 -- and the interval log has as many (`interval_checkpoints`). Assumes nothing.
 use mathlib.Core.Path.{◌≡◌, sym, ◌∙◌}
-use Prim.Native.Nat.{◌-◌}
 use native.Mathlib.Nat.{le_antisymm}
 use native.Mathlib.Omega.{arith}
 use Rattle.ranges.proofs.Sum.{sum_none}

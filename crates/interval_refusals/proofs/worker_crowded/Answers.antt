@@ -1,7 +1,7 @@
 -- `interval_refusals::worker_crowded` meets its contract: among the checkpoints passed no two fall into one interval, and the next one that
 -- is not withdrawn does with another exactly where its interval is before `free` (`Apart`). Assumes nothing.
 use mathlib.Core.Path.{refl, ap}
-use Prim.Native.Nat.{◌+◌, ◌-◌, ◌<◌}
+use Prim.Native.Nat.{◌+◌, ◌<◌}
 use native.Mathlib.Omega.{arith}
 use Rattle.ranges.proofs.Any.{sought_none, sought_more, sought_found, sought_end}
 use Rattle.event_log.specs.Layout.{workers_of}

@@ -1,7 +1,7 @@
 -- `intervals::advance` meets its contract: before each turn `number` counts the receives among the first k events of worker w, from those up
 -- to `from` on, and `interval_next` takes it one event further. Assumes nothing.
 use mathlib.Core.Path.{◌≡◌, ap, ◌∙◌, sym}
-use Prim.Native.Nat.{◌+◌, ◌-◌, ◌<◌}
+use Prim.Native.Nat.{◌+◌, ◌<◌}
 use native.Mathlib.Omega.{arith}
 use native.Mathlib.Nat.{le_antisymm}
 use Rattle.event_log.specs.Layout.{workers_of}

@@ -1,8 +1,6 @@
 -- `replay::some_disordered` meets its contract: before turn w each of the first w workers has start <= position <= cut <= count; the first
 -- that has not ends the loop with yes. Assumes nothing.
 use mathlib.Core.Path.{sym, ◌∙◌}
-use mathlib.Core.Bool.{false}
-use Prim.Native.Nat.{◌-◌}
 use native.Mathlib.Nat.{le_antisymm}
 use native.Mathlib.Omega.{arith}
 use Rattle.ranges.proofs.Any.{any_none, any_more, any_found}

@@ -1,6 +1,5 @@
 -- `sheet::add_list` meets its contract: after k turns the sheet is that of the first k breakpoints. Assumes nothing.
 use mathlib.Core.Path.{refl, sym, ◌∙◌, ap}
-use Prim.Native.Nat.{◌-◌}
 use native.Mathlib.Nat.{le_antisymm}
 use native.Mathlib.Omega.{arith}
 use lib.ListN.{length, length-replicate}

@@ -1,7 +1,6 @@
 -- `upper_line::upper_into` meets its contract: before turn w each of the first w workers is at its last event, or the breakpoint event
 -- happened before its next one; where this holds of all n, the line is the upper line (`lined_upper`). Assumes nothing.
 use mathlib.Core.Path.{sym, ◌∙◌}
-use Prim.Native.Nat.{◌-◌}
 use native.Mathlib.Omega.{arith}
 use Rattle.accept.proofs.Accepted.{accepted_layout, well_formed}
 use Rattle.upper_line.proofs.Raising.{passed_first, lined_first, lined_more, lined_upper}

@@ -1,7 +1,7 @@
 -- `replay::list::advance_each` meets its contract: after j turns the first j answers and the positions are those of the machine's run of
 -- the first j numbers, and each position is still between its start and its cut. Assumes nothing.
 use mathlib.Core.Path.{◌≡◌, refl}
-use Prim.Native.Nat.{◌-◌, ◌*◌}
+use Prim.Native.Nat.{◌*◌}
 use native.Mathlib.Omega.{arith}
 use lib.ListN.{length}
 use Rattle.replay.proofs.Storing.{storing_begin, answer_stored, storing_end}
