@@ -187,8 +187,9 @@ fn write_with(log: &[u8], b: u32, size: usize, out: &mut [u8])
     write_sections(log, b, &firsts, &table, out);
 }
 
-// Writes the interval log, whose length is `size`, with the smallest blocks, from 2^b events on, that the table has places for. A function
-// that calls itself is not made a part of its caller by the compiler: so the table does not lie in the frames of the tests of the log.
+// Writes the interval log, whose length is `size`, with the smallest blocks, from 2^b events on, that the table has places for. It is not
+// made a part of its caller: so the table does not lie in the frames of the tests of the log.
+#[inline(never)]
 fn write_from(log: &[u8], b: u32, size: usize, out: &mut [u8])
     requires { Space log.now size (length out.old) × (b ≤ most_bits) }
     ensures out { out.new ≡ onto (packed (interval_log (workers_of log.now))) out.old }
