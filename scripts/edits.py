@@ -3,14 +3,14 @@
 
     scripts/edits.py FILE            all edits; exit status 1 where one was not tried, or was refused elsewhere than it says
     scripts/edits.py FILE NAME ..    those of these crates
-    scripts/edits.py FILE --write    puts the place of each refusal into its edit: then each is read against the edit's name
+    scripts/edits.py FILE --write    puts the place of each refusal into the table: then each is read against the edit's name
 
 FILE holds what was printed: a line for each edit, with the first error that refuses it, which rt cuts off after 160 characters.
 
-The line `at:` of an edit, which may begin with `# `, names the place at which the prover must refuse it first. Where a proof is refused, that
-is a file of its crate, the goal or the lemma there, and where that is a record, its field. Where rattle itself found no proof of a goal that has
-no answer, it is the file of the source, the function there, and the goal. rt passes over the line. An error that is about a name, a module, a
-field, an argument or a goal that is gone shows nothing: the edit made the proof unfit, and the fact was never asked.
+edits.tsv beside this script has a row for each edit: crate/edit, a tab, and the place at which the prover must refuse it first. Where a proof is
+refused, that is a file of its crate, the goal or the lemma there, and where that is a record, its field. Where rattle itself found no proof of a
+goal that has no answer, it is the file of the source, the function there, and the goal. An error that is about a name, a module, a field, an
+argument or a goal that is gone shows nothing: the edit made the proof unfit, and the fact was never asked.
 """
 
 import pathlib
@@ -18,6 +18,7 @@ import re
 import sys
 
 TOP = pathlib.Path(__file__).resolve().parent.parent
+TABLE = TOP / "scripts" / "edits.tsv"
 GONE = re.compile(
     r"that can be named from here|no module is found|has no field|is not in scope|Parse|Scope|takes .* argument|was not admitted")
 TRIED = re.compile(r"^(?:rt: )?must-fail (?P<crate>\w+)/(?P<edit>[\w.-]+)\.edit: (?P<said>.*)$")
@@ -79,22 +80,22 @@ def place_of(edit, said):
     return None, "is refused with no goal or lemma named: %s" % error[:160]
 
 
-def check(edit, said, write):
-    """What is wrong with an edit, or nothing."""
+def table():
+    """The place that is written down for each edit."""
+    rows = TABLE.read_text(encoding="utf-8").splitlines() if TABLE.exists() else []
+    return dict(row.split("\t") for row in rows)
+
+
+def check(edit, said, named):
+    """The place of an edit's refusal, and what is wrong with it, or nothing."""
     if said is None:
-        return "was not tried"
+        return None, "was not tried"
     place, wrong = place_of(edit, said)
     if wrong:
-        return wrong
-    text = edit.read_text(encoding="utf-8")
-    named = re.search(r"^(?:# )?at: (.*)\n", text, re.M)
-    if write:
-        kept = re.sub(r"^(?:# )?at: .*\n", "", text, flags=re.M)
-        edit.write_text(re.sub(r"^(?=file: )", "# at: %s\n" % place, kept, count=1, flags=re.M), encoding="utf-8")
-        return ""
-    if not named:
-        return "has no line `at:`; it is refused at %s" % place
-    return "" if named[1] == place else "is refused at %s, not at %s" % (place, named[1])
+        return place, wrong
+    if named is None:
+        return place, "has no row in the table; it is refused at %s" % place
+    return place, "" if named == place else "is refused at %s, not at %s" % (place, named)
 
 
 def main(words):
@@ -105,13 +106,19 @@ def main(words):
     said = tried(pathlib.Path(words[0]).read_text(encoding="utf-8", errors="replace"))
     crates = words[1:] or ["*"]
     edits = sorted(edit for crate in crates for edit in TOP.glob("crates/%s/must-fail/*.edit" % crate))
+    rows = table()
     faults = 0
     for edit in edits:
-        name = (edit.parent.parent.name, edit.stem)
-        wrong = check(edit, said.get(name), write)
+        name = "%s/%s" % (edit.parent.parent.name, edit.stem)
+        place, wrong = check(edit, said.get((edit.parent.parent.name, edit.stem)), rows.get(name))
+        if write and place:
+            rows[name] = place
+            wrong = ""
         if wrong:
             faults += 1
-            print("%s/%s %s" % (*name, wrong))
+            print("%s %s" % (name, wrong))
+    if write:
+        TABLE.write_text("".join("%s\t%s\n" % row for row in sorted(rows.items())), encoding="utf-8")
     done = "have the place of their refusal now" if write else "refused at the fact that they name"
     print("%d edits, %d of them %s" % (len(edits), len(edits) - faults, done))
     return 1 if faults or not edits else 0

@@ -76,7 +76,7 @@ def declared_names(texts):
     for text in texts.values():
         code = code_of(text)
         for name, kind in DECLARED.findall(code):
-            if not re.match(r" tie\.", kind):
+            if not re.match(r" (?:tie|goal)\.", kind):
                 found.add(name)
         found.update(LET.findall(code))
         for group in BOUND.findall(code) + LAMBDA.findall(code):
