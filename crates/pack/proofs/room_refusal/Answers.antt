@@ -1,17 +1,23 @@
 -- `pack::room_refusal` meets its contract: a length over that of the longest log gives 26, else one over the bytes lent gives 25: the two
--- tests of `room_refusal` in its order. Assumes nothing.
+-- tests of `room_refusal` in its order. The branches' facts are found by `omega`. Assumes nothing.
+use native.Mathlib.Omega.{arith}
 use borrow.Author.Tests.{lt-ltb, le-ltb}
+use Rattle.event_log.specs.Limits.{max_length}
 use Rattle.pack.specs.Calls.{room_refusal}
 use Rattle.pack.proofs.room_refusal.Goals as goal
 
 pub returns-then-size-gt-MAX_LENGTH : goal.returns-then-size-gt-MAX_LENGTH
 unfolding room_refusal
-returns-then-size-gt-MAX_LENGTH c = record { answer = rw (lt-ltb _ _ c.if-size-gt-MAX_LENGTH.true) }
+returns-then-size-gt-MAX_LENGTH c = record { answer = rw (lt-ltb max_length c.args.size (omega arith)) }
 
 pub returns-then-lent-size : goal.returns-then-lent-size
 unfolding room_refusal
-returns-then-lent-size c = record { answer = rw (le-ltb _ _ c.if-size-gt-MAX_LENGTH.false, lt-ltb _ _ c.if-lent-size.true) }
+returns-then-lent-size c = record {
+  answer = rw (le-ltb max_length c.args.size (omega arith), lt-ltb c.args.lent c.args.size (omega arith));
+}
 
 pub returns : goal.returns
 unfolding room_refusal
-returns c = record { answer = rw (le-ltb _ _ c.if-size-gt-MAX_LENGTH.false, le-ltb _ _ c.if-lent-size.false) }
+returns c = record {
+  answer = rw (le-ltb max_length c.args.size (omega arith), le-ltb c.args.lent c.args.size (omega arith));
+}
