@@ -2,14 +2,13 @@
 """The figures of a landing note, as Markdown.
 
     scripts/landing.py BASE                lines added and removed by HEAD against the commit BASE
-    scripts/landing.py BASE --prove        and the seconds of `rt prove` from nothing of both, one after the other on this machine
-    scripts/landing.py BASE --gate FILE    and those of a run of the gate on HEAD
+    scripts/landing.py BASE --gate FILE    and what a run of the gate on HEAD took and said
 
 FILE is the saved output of a run: { time .ci/run; } > FILE 2>&1. The gate's time before is that of the last note of docs/landings, and
 is named so.
 A file that moved is compared with what it was where git knows it again, and its lines count for the crate that it is in now.
-The seconds of a crate's edits are the sum over its must-fail edits, which run several at a time; the whole run's are those
-that `time` wrote, and are left out where it did not.
+The seconds are those that `time` wrote, and are left out where it did not. A run takes from earlier ones on the same machine what has not changed
+since, so only a run with nothing kept has the time of the whole.
 """
 
 import argparse
@@ -17,13 +16,9 @@ import os
 import re
 import subprocess
 import sys
-import tempfile
-import time
 
 NOTES = os.path.join(os.path.dirname(os.path.abspath(__file__)), "..", "docs", "landings")
 PARTS = ("specs", "src", "proofs")
-PROVED = re.compile(r"^rt: (\w+) proved \((\d+) s\)", re.M)
-EDIT = re.compile(r"^rt: must-fail (\w+)/\S+: .*\b(\d+) s\)", re.M)
 EDITS = re.compile(r"^\d+ edits, \d+ of them refused.*$", re.M)
 VERDICT = re.compile(r"^\d+ passed, \d+ failed$", re.M)
 WHOLE = re.compile(r"^real\s+(\d+)m([\d.]+)s$", re.M)
@@ -43,7 +38,7 @@ def table(head, rows):
 
 def in_order(names):
     """The crates in the order of crates.txt; those that are no longer there come last."""
-    listed = re.findall(r"^(\w+):", git("show", "HEAD:crates.txt"), re.M)
+    listed = re.findall(r"^(\w+)(?: staticlib)?:", git("show", "HEAD:crates.txt"), re.M)
     return [name for name in listed if name in names] + sorted(set(names) - set(listed))
 
 
@@ -71,26 +66,6 @@ def lines_table(found):
         for crate, parts in rows])
 
 
-def proved(commit):
-    """The seconds that each crate of a commit takes to be proved from nothing, and those of all, in a clone of its own."""
-    with tempfile.TemporaryDirectory() as room:
-        top = git("rev-parse", "--show-toplevel").strip()
-        tree = os.path.join(room, "tree")
-        subprocess.run(("git", "clone", "-q", top, tree), check=True)
-        subprocess.run(("git", "checkout", "-q", commit), cwd=tree, check=True)
-        began = time.time()
-        said = subprocess.run(("rt", "prove"), cwd=tree, stdout=subprocess.PIPE, stderr=subprocess.STDOUT, text=True)
-        if said.returncode:
-            sys.exit("%s is not proved:\n%s" % (commit, said.stdout[-2000:]))
-        return {crate: int(s) for crate, s in PROVED.findall(said.stdout)}, round(time.time() - began)
-
-
-def proofs_text(base):
-    before, after = proved(git("rev-parse", base).strip()), proved(git("rev-parse", "HEAD").strip())
-    each = ["`%s` %s/%s" % (crate, before[0].get(crate, "-"), after[0].get(crate, "-")) for crate in in_order({**before[0], **after[0]})]
-    print("rt prove, seconds before/after: %s; all of it %d/%d.\n" % (", ".join(each), before[1], after[1]))
-
-
 def last_note():
     """The last landing note, and the line of it that has the gate's time."""
     notes = sorted(name for name in os.listdir(NOTES) if name[:2].isdigit())
@@ -99,14 +74,9 @@ def last_note():
 
 
 def gate_text(path):
-    """Of a saved run: the seconds of each crate's edits, those of the whole run, how many edits there are, and the verdict."""
+    """Of a saved run: its seconds, how many edits there are, and the verdict."""
     with open(path, encoding="utf-8", errors="replace") as file:
         text = file.read()
-    edits = {}
-    for crate, seconds in EDIT.findall(text):
-        edits[crate] = edits.get(crate, 0) + int(seconds)
-    each = ["`%s` %d" % (crate, edits[crate]) for crate in in_order(edits)]
-    print("Edits, seconds: %s; all of them %d.\n" % (", ".join(each), sum(edits.values())))
     whole = WHOLE.search(text)
     seconds = "%d s, " % round(60 * int(whole.group(1)) + float(whole.group(2))) if whole else ""
     ended = VERDICT.search("\n".join(text[:whole.start() if whole else None].rstrip().splitlines()[-1:]))
@@ -118,13 +88,10 @@ def gate_text(path):
 if __name__ == "__main__":
     words = argparse.ArgumentParser(description=__doc__, formatter_class=argparse.RawDescriptionHelpFormatter)
     words.add_argument("base")
-    words.add_argument("--prove", action="store_true")
     words.add_argument("--gate", metavar="FILE")
     given = words.parse_args()
     if git("status", "--porcelain", "--", ":/crates"):
         print("what is not committed below crates/ is not counted", file=sys.stderr)
     lines_table(changes(given.base))
-    if given.prove:
-        proofs_text(given.base)
     if given.gate:
         gate_text(given.gate)

@@ -73,15 +73,17 @@ fn run_case<R: Read, W: Write, F: Read>(
     text::print_byte(out, b'\n')
 }
 
-// The case that an argument names.
+// The case that an argument names. A file that does not open is as an empty one.
 fn run_argument<R: Read, W: Write>(
     rt: &impl Files,
     input: &mut R,
     out: &mut W,
     name: &str,
 ) -> io::Result<()> {
-    let mut file = fs::open(rt, name)?;
-    run_case(input, out, name, &mut file)
+    match fs::open(rt, name) {
+        Ok(mut file) => run_case(input, out, name, &mut file),
+        Err(_) => run_case(input, out, name, &mut io::empty()),
+    }
 }
 
 // Every argument.

@@ -91,17 +91,13 @@ pub(crate) fn part_of_scratch(scratch: &mut [u32], given: [u32; SIZE]) -> &mut [
     scratch
 }
 
-// The first 64-bit words, so many or all.
-fn first_wide(words: &mut [u64], count: usize) -> &mut [u64] {
-    if count < words.len() {
-        return &mut words[0..count];
-    }
-    words
-}
-
 // The totals to lend: as many as stand at place TOTALS, or as there are.
 pub(crate) fn part_of_totals(totals: &mut [u64], given: [u32; SIZE]) -> &mut [u64] {
-    first_wide(totals, wide(given[TOTALS]))
+    let count = wide(given[TOTALS]);
+    if count < totals.len() {
+        return &mut totals[0..count];
+    }
+    totals
 }
 
 // How many bytes are lent: as many as stand at place BYTES, or as there are.

@@ -41,16 +41,11 @@ pub(crate) fn print_number<W: Write>(out: &mut W, mark: u8, number: u32) -> io::
     write!(out, "{number}")
 }
 
-// Prints a 64-bit word that is changed, with its kind and its number.
-fn print_wide_word<W: Write>(out: &mut W, mark: u8, k: usize, word: u64) -> io::Result<()> {
+// Prints a word that is changed, with its kind and its number.
+fn print_word<W: Write>(out: &mut W, mark: u8, k: usize, word: u32) -> io::Result<()> {
     print_byte(out, b' ')?;
     print_byte(out, mark)?;
     write!(out, "{k}:{word}")
-}
-
-// Prints a word that is changed, with its kind and its number.
-fn print_word<W: Write>(out: &mut W, mark: u8, k: usize, word: u32) -> io::Result<()> {
-    print_wide_word(out, mark, k, word as u64)
 }
 
 // Prints each word from place `from` on that is not as it was given, with its number from there.
