@@ -128,14 +128,7 @@ fn some_entry(log: &[u8], test: u32) -> bool
     ensures answer { result ≡ some_entry test log.now }
 {
     let n = size_field(log) as usize;
-    let mut w: usize = 0;
-    while w < n {
-        if entry_fault(log, test, w) {
-            return true;
-        }
-        w += 1;
-    }
-    false
+    (0..n).any(|w| entry_fault(log, test, w))
 }
 
 // Tests 5 and 6 on a log whose header is whole.

@@ -1,5 +1,6 @@
 pub mod Any
 pub mod Bools
+pub mod Chains
 pub mod First
 pub mod Join
 pub mod Keep
