@@ -74,9 +74,5 @@ pub fn copy_bytes(from: &[u8], to: &mut [u8], at: usize)
     requires { at + length from.now ≤ length to.old }
     ensures bytes { to.new ≡ overwrite at from.now to.old }
 {
-    let mut k: usize = 0;
-    while k < from.len() {
-        to[at + k] = from[k];
-        k += 1;
-    }
+    to[at..at + from.len()].copy_from_slice(from);
 }
