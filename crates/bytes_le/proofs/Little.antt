@@ -34,6 +34,11 @@ le_behind (suc width) a b at =
     let place : length a + at + width ≡ length a + (at + width) = omega arith in rw (le_behind width a b at, place, get_or-append-add a b (at + width) 0)
 
 -- ---- a number written
+-- the number in one byte is that byte
+pub byte_at : (s : List ℕ) (at : ℕ) → get_or s at 0 ≡ le 1 s at
+unfolding le
+byte_at s at = simp add-zero (omega arith)
+
 pub length_bytes : (width x : ℕ) → length (bytes_of width x) ≡ width
 unfolding bytes_of
 length_bytes zero x = refl

@@ -27,7 +27,7 @@ const MARK: u32 = 2147483648;
 
 // The kind of an event: a case for each kind of the record table, a send, a receive without its data logged and one with it, and one for
 // all the rest.
-#[derive(Clone, Copy)]
+#[derive(Clone, Copy, PartialEq, Eq)]
 pub enum Kind {
     Send,
     Unlogged,
@@ -54,13 +54,11 @@ pub struct Checkpoint {
 }
 
 // Whether this is one of the forms.
+#[tactic(auto, unfolding(crate::specs::Forms::is_form))]
 pub fn is_form(form: u32) -> bool
     ensures answer { result ≡ is_form form }
 {
-    if form == FIRST_FORM {
-        return true;
-    }
-    form == SECOND_FORM
+    form == FIRST_FORM || form == SECOND_FORM
 }
 
 // Whether a send is received at most once in a log of this form.
@@ -77,7 +75,7 @@ pub fn event_record(part: &[u8], k: usize) -> Event
     ensures kind { result.kind ≡ get_or record_table (kind_byte part.now k) Kind.Rest }
 {
     let at = EVENT_SIZE * k;
-    let byte = bytes_le::read1(part, at);
+    let byte = part[at];
     let kind = match byte {
         1 => Kind::Send,
         2 => Kind::Unlogged,
@@ -86,10 +84,10 @@ pub fn event_record(part: &[u8], k: usize) -> Event
     };
     Event {
         kind,
-        peer: bytes_le::read1(part, at + 1),
-        spare: bytes_le::read2(part, at + 2),
-        send: bytes_le::read4(part, at + 4),
-        stamp: bytes_le::read4(part, at + 8),
+        peer: part[at + 1],
+        spare: bytes_le::read::<2>(part, at + 2),
+        send: bytes_le::read::<4>(part, at + 4),
+        stamp: bytes_le::read::<4>(part, at + 8),
     }
 }
 
@@ -101,23 +99,19 @@ fn marks_withdrawn(form: u32) -> bool
 }
 
 // Whether an identifier word of a log of this form has the mark.
+#[tactic(auto, unfolding(crate::specs::Mark::has_mark))]
 fn has_mark(form: u32, word: u32) -> bool
     ensures answer { result ≡ has_mark form word }
 {
-    if marks_withdrawn(form) {
-        return MARK <= word;
-    }
-    false
+    marks_withdrawn(form) && MARK <= word
 }
 
 // The identifier that an identifier word of a log of this form has.
+#[tactic(auto, unfolding(crate::specs::Mark::without_mark))]
 fn without_mark(form: u32, word: u32) -> u32
     ensures answer { result ≡ without_mark form word }
 {
-    if marks_withdrawn(form) {
-        return word % MARK;
-    }
-    word
+    if marks_withdrawn(form) { word % MARK } else { word }
 }
 
 // Record k, from 0, of a section of checkpoints of a log of this form.
@@ -126,9 +120,9 @@ pub fn checkpoint_record(form: u32, part: &[u8], k: usize) -> Checkpoint
     ensures answer { result ≡ checkpoint_record form part.now k }
 {
     let at = CHECKPOINT_SIZE * k;
-    let word = bytes_le::read4(part, at + 4);
+    let word = bytes_le::read::<4>(part, at + 4);
     Checkpoint {
-        index: bytes_le::read4(part, at),
+        index: bytes_le::read::<4>(part, at),
         identifier: without_mark(form, word),
         withdrawn: has_mark(form, word),
     }
@@ -158,51 +152,34 @@ pub fn initial() -> Checkpoint
 }
 
 // Whether an event is a send, a receive without its data, a receive.
+#[tactic(auto, unfolding(crate::specs::Event::is_send))]
 pub fn is_send(e: Event) -> bool
     ensures answer { result ≡ is_send e }
 {
-    let kind = e.kind;
-    match kind {
-        Kind::Send => true,
-        Kind::Unlogged => false,
-        Kind::Logged => false,
-        Kind::Rest => false,
-    }
+    e.kind == Kind::Send
 }
 
+#[tactic(auto, unfolding(crate::specs::Event::is_unlogged))]
 pub fn is_unlogged(e: Event) -> bool
     ensures answer { result ≡ is_unlogged e }
 {
-    let kind = e.kind;
-    match kind {
-        Kind::Send => false,
-        Kind::Unlogged => true,
-        Kind::Logged => false,
-        Kind::Rest => false,
-    }
+    e.kind == Kind::Unlogged
 }
 
+#[tactic(auto, unfolding(crate::specs::Event::is_receive, crate::specs::Event::is_unlogged, crate::specs::Event::is_logged))]
 pub fn is_receive(e: Event) -> bool
     ensures answer { result ≡ is_receive e }
 {
-    let kind = e.kind;
-    match kind {
-        Kind::Send => false,
-        Kind::Unlogged => true,
-        Kind::Logged => true,
-        Kind::Rest => false,
-    }
+    matches!(e.kind, Kind::Unlogged | Kind::Logged)
 }
 
 // The messages that an event receives: 1 for a receive, else 0.
+#[tactic(auto, unfolding(crate::specs::Event::received))]
 pub fn received(e: Event) -> u32
     ensures answer { result ≡ received e }
     ensures few { result ≤ 1 }
 {
-    if is_receive(e) {
-        return 1;
-    }
-    0
+    u32::from(is_receive(e))
 }
 
 // The column of the table of units for a kind. That of the rest is behind the last one.
@@ -228,11 +205,9 @@ pub fn kind_number(kind: Kind) -> u8
 pub const NO_SEND: u32 = 4294967295;
 
 // The send that a receive without its data names, and `otherwise` for any other event: one comparison then serves every kind.
+#[tactic(auto, unfolding(crate::specs::Event::unlogged_send))]
 pub fn unlogged_send(e: Event, otherwise: u32) -> u32
     ensures answer { result ≡ unlogged_send e otherwise }
 {
-    if is_unlogged(e) {
-        return e.send;
-    }
-    otherwise
+    if is_unlogged(e) { e.send } else { otherwise }
 }
