@@ -8,7 +8,7 @@ ghost use Rattle.records.specs.Event.{event_record};
 ghost use Rattle.records.specs.Checkpoint.{initial, checkpoint_record};
 ghost use Rattle.event_log.specs.Model.{worker_count, event_count, event_of, checkpoint_count, checkpoint_of, role_of};
 ghost use Rattle.event_log.specs.Layout.{form_field, size_field, length_field, header_of, field, entry_or_zero, section, event_start, event_section, checkpoint_section, workers_of};
-ghost use Rattle.event_log.specs.Header.{form_fault, limit_fault, outside, section_fault, entry_fault, some_entry, entries_refusal, layout_refusal};
+ghost use Rattle.event_log.specs.Header.{form_fault, limit_fault, outside, section_fault, entries_refusal, layout_refusal};
 
 use records::{Checkpoint, Event};
 
@@ -41,21 +41,21 @@ pub fn form_field(log: &[u8]) -> u32
     requires { 8 ≤ length log.now }
     ensures answer { result ≡ form_field log.now }
 {
-    bytes_le::read2(log, 0)
+    bytes_le::read::<2>(log, 0)
 }
 
 fn size_field(log: &[u8]) -> u32
     requires { 8 ≤ length log.now }
     ensures answer { result ≡ size_field log.now }
 {
-    bytes_le::read2(log, 2)
+    bytes_le::read::<2>(log, 2)
 }
 
 fn length_field(log: &[u8]) -> u32
     requires { 8 ≤ length log.now }
     ensures answer { result ≡ length_field log.now }
 {
-    bytes_le::read4(log, 4)
+    bytes_le::read::<4>(log, 4)
 }
 
 // The bytes of the header of a log of n workers.
@@ -66,69 +66,44 @@ pub fn header_of(n: u32) -> usize
 }
 
 // Number j of the header's entry of worker w.
+#[tactic(auto, unfolding(crate::specs::Layout::field))]
 fn entry(log: &[u8], w: usize, j: usize) -> u32
     requires { (j < 5) × (header_of (w + 1) ≤ length log.now) }
     ensures answer { result ≡ field log.now w j }
 {
-    bytes_le::read4(log, 8 + 20 * w + 4 * j)
+    bytes_le::read::<4>(log, 8 + 20 * w + 4 * j)
 }
 
 // Test 5 on worker w.
+#[tactic(auto, unfolding(crate::specs::Header::limit_fault))]
 fn limit_fault(log: &[u8], w: usize) -> bool
     requires { header_of (w + 1) ≤ length log.now }
     ensures answer { result ≡ limit_fault log.now w }
 {
-    if MAX_EVENTS < entry(log, w, EVENT_COUNT_FIELD) {
-        return true;
-    }
-    if MAX_CHECKPOINTS < entry(log, w, CHECKPOINT_COUNT_FIELD) {
-        return true;
-    }
-    MAX_ROLE < entry(log, w, ROLE_FIELD)
+    MAX_EVENTS < entry(log, w, EVENT_COUNT_FIELD)
+        || MAX_CHECKPOINTS < entry(log, w, CHECKPOINT_COUNT_FIELD)
+        || MAX_ROLE < entry(log, w, ROLE_FIELD)
 }
 
 // Whether `bytes` bytes from `start` on leave the part of the log behind its header.
+#[tactic(auto, unfolding(crate::specs::Header::outside))]
 fn is_outside(log: &[u8], start: u32, bytes: usize) -> bool
     requires { (8 ≤ length log.now) × (bytes < 68719476736) }
     ensures answer { result ≡ outside log.now start bytes }
 {
-    if (start as usize) < header_of(size_field(log)) {
-        return true;
-    }
-    log.len() < start as usize + bytes
+    (start as usize) < header_of(size_field(log)) || log.len() < start as usize + bytes
 }
 
 // Test 6 on worker w.
+#[tactic(auto, unfolding(crate::specs::Header::section_fault))]
 fn section_fault(log: &[u8], w: usize) -> bool
     requires { header_of (w + 1) ≤ length log.now }
     ensures answer { result ≡ section_fault log.now w }
 {
     let events = records::EVENT_SIZE * (entry(log, w, EVENT_COUNT_FIELD) as usize);
-    if is_outside(log, entry(log, w, EVENT_OFFSET_FIELD), events) {
-        return true;
-    }
     let checkpoints = records::CHECKPOINT_SIZE * (entry(log, w, CHECKPOINT_COUNT_FIELD) as usize);
-    is_outside(log, entry(log, w, CHECKPOINT_OFFSET_FIELD), checkpoints)
-}
-
-fn entry_fault(log: &[u8], test: u32, w: usize) -> bool
-    requires { header_of (w + 1) ≤ length log.now }
-    ensures answer { result ≡ entry_fault test log.now w }
-{
-    if test == 5 {
-        limit_fault(log, w)
-    } else {
-        section_fault(log, w)
-    }
-}
-
-// Whether some worker's entry has the fault of this number, 5 or 6.
-fn some_entry(log: &[u8], test: u32) -> bool
-    requires { (8 ≤ length log.now) × (header_of (size_field log.now) ≤ length log.now) }
-    ensures answer { result ≡ some_entry test log.now }
-{
-    let n = size_field(log) as usize;
-    (0..n).any(|w| entry_fault(log, test, w))
+    is_outside(log, entry(log, w, EVENT_OFFSET_FIELD), events)
+        || is_outside(log, entry(log, w, CHECKPOINT_OFFSET_FIELD), checkpoints)
 }
 
 // Tests 5 and 6 on a log whose header is whole.
@@ -136,16 +111,18 @@ fn entries_refusal(log: &[u8]) -> u32
     requires { (8 ≤ length log.now) × (header_of (size_field log.now) ≤ length log.now) }
     ensures answer { result ≡ entries_refusal log.now }
 {
-    if some_entry(log, 5) {
+    let n = size_field(log) as usize;
+    if (0..n).any(|w| limit_fault(log, w)) {
         return 5;
     }
-    if some_entry(log, 6) {
+    if (0..n).any(|w| section_fault(log, w)) {
         return 6;
     }
     0
 }
 
 // Test 2: whether the form is neither of the two.
+#[tactic(auto, unfolding(crate::specs::Header::form_fault))]
 fn form_fault(log: &[u8]) -> bool
     requires { 8 ≤ length log.now }
     ensures answer { result ≡ form_fault log.now }

@@ -1,16 +1,26 @@
--- `event_log::entries_refusal` meets its contract: the branches are taken where some entry fails test 5, and where none does but some entry fails
--- test 6; else `entries_refusal` is 0. Assumes nothing.
-use Rattle.event_log.specs.Header.{entries_refusal}
+-- `event_log::entries_refusal` meets its contract: each `any` asks the entries in turn for its test (`any_in_range`). Assumes nothing.
+use Rattle.std.proofs.Common.{rules, refl}
+use Rattle.std.proofs.lemmas.Iterator.{YieldsList-from_range}
+use Rattle.ranges.proofs.Chains.{any_in_range}
+use Rattle.event_log.specs.Header.{entry_fault, some_entry, entries_refusal}
 use Rattle.event_log.proofs.entries_refusal.Goals as goal
 
-pub returns-then-some_entry : goal.returns-then-some_entry
-unfolding entries_refusal
-returns-then-some_entry c = record { answer = rw (← c.some_entry.ensures.answer, c.if-some_entry.true) }
+pub returns-then-any : goal.returns-then-any
+unfolding entry_fault some_entry entries_refusal
+returns-then-any c =
+    let five = any_in_range (entry_fault 5 c.args.log.now) _ _ _ c.any.ensures.ran (YieldsList-from_range 0 _ _ refl refl) c.size_field-n.ensures.answer (λ x b q k. search rules) in
+    record { answer = rw (← five, c.if-any.true) }
 
-pub returns-then-some_entry-2 : goal.returns-then-some_entry-2
-unfolding entries_refusal
-returns-then-some_entry-2 c = record { answer = rw (← c.some_entry.ensures.answer, c.if-some_entry.false, ← c.some_entry-2.ensures.answer, c.if-some_entry-2.true) }
+pub returns-then-any-2 : goal.returns-then-any-2
+unfolding entry_fault some_entry entries_refusal
+returns-then-any-2 c =
+    let five = any_in_range (entry_fault 5 c.args.log.now) _ _ _ c.any.ensures.ran (YieldsList-from_range 0 _ _ refl refl) c.size_field-n.ensures.answer (λ x b q k. search rules) in
+    let six = any_in_range (entry_fault 6 c.args.log.now) _ _ _ c.any-2.ensures.ran (YieldsList-from_range 0 _ _ refl refl) c.size_field-n.ensures.answer (λ x b q k. search rules) in
+    record { answer = rw (← five, c.if-any.false, ← six, c.if-any-2.true) }
 
 pub returns : goal.returns
-unfolding entries_refusal
-returns c = record { answer = rw (← c.some_entry.ensures.answer, c.if-some_entry.false, ← c.some_entry-2.ensures.answer, c.if-some_entry-2.false) }
+unfolding entry_fault some_entry entries_refusal
+returns c =
+    let five = any_in_range (entry_fault 5 c.args.log.now) _ _ _ c.any.ensures.ran (YieldsList-from_range 0 _ _ refl refl) c.size_field-n.ensures.answer (λ x b q k. search rules) in
+    let six = any_in_range (entry_fault 6 c.args.log.now) _ _ _ c.any-2.ensures.ran (YieldsList-from_range 0 _ _ refl refl) c.size_field-n.ensures.answer (λ x b q k. search rules) in
+    record { answer = rw (← five, c.if-any.false, ← six, c.if-any-2.false) }
