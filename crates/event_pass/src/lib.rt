@@ -97,10 +97,14 @@ fn listed_fault(log: &[u8], w: usize, list: &[u32; BLOCK as usize], count: usize
 {
     let start = event_log::event_start(log, w);
     let events = event_log::event_count(log, w) as usize;
-    (0..count).any(|j| {
+    // No `any`: with it the compiled pass is slower.
+    for j in 0..count {
         let e = event_log::event_in(log, start, events, list[j] as usize);
-        naming_fault(log, w, e)
-    })
+        if naming_fault(log, w, e) {
+            return true;
+        }
+    }
+    false
 }
 
 // Whether an event of worker w, up to the end of the block from `first` on, fails one of the tests 7 to 10. None before `first` does.

@@ -15,11 +15,12 @@ ghost use Rattle.repeats.specs.Inner.Table.{table_after, found_marked, Numbered,
 
 use records::Event;
 
-// The number before the send that an event names, and one above every index where it names none: one comparison then serves every kind.
+// The number before the send that an event names. Where it names none this wraps to one above every index: one comparison then serves every
+// kind, with no branch.
 fn before_send(e: Event) -> u32
     ensures answer { 0 < e.send → result + 1 ≡ e.send }
 {
-    e.send.checked_sub(1).unwrap_or(records::NO_SEND)
+    e.send.wrapping_sub(1)
 }
 
 // Whether a receive of worker w names no later send of its peer than a receive before it: only such a one may name a send again.

@@ -18,25 +18,21 @@ loop-k-init c = (lists_none _ _ _ _, c.requires.4, ap (λ (e : Event). e.stamp) 
 
 pub event_in-e-requires : goal.event_in-e-requires
 event_in-e-requires c =
-    read_within c.args.log.now c.requires.0 c.args.w c.event_start-start.ensures.answer c.event_count-events.ensures.answer c.loop-k.k (omega (arith, c.requires.2))
+    read_within _ c.requires.0 _ c.event_start-start.ensures.answer c.event_count-events.ensures.answer (omega (arith, c.requires.2))
 
 pub returns-then-own_fault : goal.returns-then-own_fault
 unfolding record_fault event_fault
 returns-then-own_fault c =
     let inside : c.loop-k.k < event_count (workers_of c.args.log.now) c.args.w = omega (arith, c.requires.2) in
-    let event = c.event_in-e.ensures.answer ∙ read_event _ c.requires.0 _ c.event_start-start.ensures.answer c.event_count-events.ensures.answer _ inside in
+    let event = read_event _ c.requires.0 _ c.event_start-start.ensures.answer c.event_count-events.ensures.answer inside c.event_in-e.ensures.answer in
     let own = rw (c.loop-k.invariant.2, event) at c.own_fault.ensures.answer in
     record { answer = any_found (record_fault 0 _ _) _ _ c.loop-k-test.true (own_decides _ _ _ _ (sym own ∙ c.if-own_fault.true)) }
-
--- there is room for one more
-pub bounds-list-count : goal.bounds-list-count
-bounds-list-count c = omega (arith, c.loop-k.invariant.0.few, c.requires.3)
 
 pub loop-k-preserved : goal.loop-k-preserved
 loop-k-preserved c =
     let inv = c.loop-k.invariant in
     let inside : c.loop-k.k < event_count (workers_of c.args.log.now) c.args.w = omega (arith, c.requires.2) in
-    let event = c.event_in-e.ensures.answer ∙ read_event _ c.requires.0 _ c.event_start-start.ensures.answer c.event_count-events.ensures.answer _ inside in
+    let event = read_event _ c.requires.0 _ c.event_start-start.ensures.answer c.event_count-events.ensures.answer inside c.event_in-e.ensures.answer in
     let own = rw (inv.2, event) at c.own_fault.ensures.answer in
     let room : c.loop-k.count < block_size = omega (arith, inv.0.few, c.requires.3) in (
       rw (c.names.ensures.answer, event) (lists_more _ _ _ _ _ _ inv.0 inside (rw inv.1 room) (sym own ∙ c.if-own_fault.false)),
