@@ -8,6 +8,8 @@ ghost use Rattle.event_log.specs.Layout.{form_field, workers_of, log_of};
 ghost use Rattle.repeats.specs.Repeats.{ReceivedOnce, ReceivedTwice};
 ghost use Rattle.accept.specs.Refusal.{events_refusal, records_refusal, content_refusal, log_refusal};
 
+use record_tests::RecordTest;
+
 // Tests 7 to 10: the number of the first that fails, or 0.
 fn events_refusal(log: &[u8]) -> u32
     requires { layout_refusal log.now ≡ 0 }
@@ -16,16 +18,16 @@ fn events_refusal(log: &[u8]) -> u32
     if !event_pass::some_event(log) {
         return 0;
     }
-    if record_tests::some_record(log, 7) {
+    if record_tests::some_record(log, RecordTest::Fields) {
         return 7;
     }
-    if record_tests::some_record(log, 8) {
+    if record_tests::some_record(log, RecordTest::Stamps) {
         return 8;
     }
-    if record_tests::some_record(log, 9) {
+    if record_tests::some_record(log, RecordTest::Sources) {
         return 9;
     }
-    if record_tests::some_record(log, 10) {
+    if record_tests::some_record(log, RecordTest::Orders) {
         return 10;
     }
     0
@@ -40,7 +42,7 @@ fn records_refusal(log: &[u8]) -> u32
     if refusal != 0 {
         return refusal;
     }
-    if record_tests::some_record(log, 11) {
+    if record_tests::some_record(log, RecordTest::Checkpoints) {
         return 11;
     }
     0

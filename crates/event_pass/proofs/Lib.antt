@@ -1,3 +1,4 @@
 pub mod Message
 pub mod Lists
 pub mod Blocks
+pub mod Read

@@ -1,7 +1,7 @@
 // One pass over the events of a log for any fault of the tests 7 to 10.
 #![tactic(auto)]
 
-ghost use Rattle.std.specs.Prelude.{◌≡◌, true, false, ℕ, ◌+◌, ◌<◌, ◌≤◌, min, length};
+ghost use Rattle.std.specs.Prelude.{◌≡◌, true, false, ℕ, ◌+◌, ◌<◌, ◌≤◌, min, length, MatchOption};
 ghost use Rattle.ranges.specs.Fold.{any_below, max_below};
 ghost use Rattle.lent.specs.Lent.{at};
 ghost use Rattle.event_log.specs.Header.{layout_refusal};
@@ -19,10 +19,7 @@ fn names(e: Event) -> u32
     ensures answer { result ≡ names e }
     ensures few { result ≤ 1 }
 {
-    if e.send == 0 {
-        return 0;
-    }
-    1
+    u32::from(e.send != 0)
 }
 
 // Whether an event of worker w fails a test that looks at no event but the one before it, whose stamp is `before`. Of the
@@ -32,19 +29,10 @@ fn own_fault(log: &[u8], w: usize, before: u32, e: Event) -> bool
     requires { layout_refusal log.now ≡ 0 }
     ensures answer { result ≡ own_fault (workers_of log.now) w before e }
 {
-    if e.spare != 0 {
-        return true;
-    }
-    if record_tests::peer_fault(log, w, e) {
-        return true;
-    }
-    if e.stamp <= before {
-        return true;
-    }
-    if e.send != 0 {
-        return false;
-    }
-    !records::is_send(e)
+    e.spare != 0
+        || record_tests::peer_fault(log, w, e)
+        || e.stamp <= before
+        || (e.send == 0 && !records::is_send(e))
 }
 
 // Whether an event of worker w that names another is no receive, or names one that is no send, none to w, or none before it: what
@@ -57,13 +45,7 @@ fn naming_fault(log: &[u8], w: usize, e: Event) -> bool
         return true;
     }
     let send = event_log::worker_event(log, e.peer as usize, e.send);
-    if !records::is_send(send) {
-        return true;
-    }
-    if send.peer as usize != w {
-        return true;
-    }
-    e.stamp <= send.stamp
+    !records::is_send(send) || send.peer as usize != w || e.stamp <= send.stamp
 }
 
 // The events of each worker that the pass for any fault takes in turn. What a receive names was sent shortly before it, in a block that was
@@ -75,21 +57,11 @@ fn block_end(first: u32, count: u32) -> u32
     requires { first ≤ max_events }
     ensures answer { result ≡ min (first + block_size) count }
 {
-    let end = first + BLOCK;
-    if count < end {
-        return count;
-    }
-    end
+    (first + BLOCK).min(count)
 }
 
-// Whether an event of a block fails a test of its own; else how many of its events name another.
-#[derive(Clone, Copy)]
-struct Listed {
-    fault: bool,
-    count: usize,
-}
-
-// Lists those of the events after the first `first` and up to `end` of worker w that name another: the receives, where there is no fault.
+// Lists those of the events after the first `first` and up to `end` of worker w that name another: the receives, where there is no fault. The
+// answer is how many they are, or none where one of these events fails a test of its own.
 // Kinds are random in a run, so there is no branch on the kind: each event is written where the next one that is listed has its place.
 fn list_naming(
     log: &[u8],
@@ -97,30 +69,25 @@ fn list_naming(
     first: u32,
     end: u32,
     list: &mut [u32; BLOCK as usize],
-) -> Listed
+) -> Option<usize>
     requires { (layout_refusal log.now ≡ 0) × (first ≤ end) × (end ≤ event_count (workers_of log.now) w) × (end ≤ first + block_size) × (length list.old ≡ block_size) }
-    ensures found { result.fault ≡ true → any_below (record_fault 0 (workers_of log.now) w) end ≡ true }
-    ensures listed { result.fault ≡ false → Lists (workers_of log.now) w first end list.new result.count }
+    ensures answer { MatchOption result (any_below (record_fault 0 (workers_of log.now) w) end ≡ true)
+        (λ count. Lists (workers_of log.now) w first end list.new count) }
 {
     let start = event_log::event_start(log, w);
     let events = event_log::event_count(log, w) as usize;
     let mut before = event_log::event_at(log, w, first).stamp;
     let mut count: usize = 0;
-    let mut k = first;
-    while k < end {
+    for k in first..end {
         let e = event_log::event_in(log, start, events, k as usize);
         if own_fault(log, w, before, e) {
-            return Listed { fault: true, count };
+            return None;
         }
         list[count] = k;
         count += names(e) as usize;
         before = e.stamp;
-        k += 1;
     }
-    Listed {
-        fault: false,
-        count,
-    }
+    Some(count)
 }
 
 // Whether one of the first `count` listed events of worker w is no receive, or fails test 9 or 10.
@@ -130,13 +97,12 @@ fn listed_fault(log: &[u8], w: usize, list: &[u32; BLOCK as usize], count: usize
 {
     let start = event_log::event_start(log, w);
     let events = event_log::event_count(log, w) as usize;
-    let mut j: usize = 0;
-    while j < count {
+    // No `any`: with it the compiled pass is slower.
+    for j in 0..count {
         let e = event_log::event_in(log, start, events, list[j] as usize);
         if naming_fault(log, w, e) {
             return true;
         }
-        j += 1;
     }
     false
 }
@@ -151,11 +117,10 @@ fn events_fault(log: &[u8], w: usize, first: u32) -> bool
         return false;
     }
     let mut list = [0u32; BLOCK as usize];
-    let listed = list_naming(log, w, first, block_end(first, count), &mut list);
-    if listed.fault {
-        return true;
+    match list_naming(log, w, first, block_end(first, count), &mut list) {
+        Some(listed) => listed_fault(log, w, &list, listed),
+        None => true,
     }
-    listed_fault(log, w, &list, listed.count)
 }
 
 // Whether an event of some worker, up to the end of its block from `first` on, fails one of the tests 7 to 10. None before `first` does.
@@ -164,14 +129,7 @@ fn block_fault(log: &[u8], first: u32) -> bool
     ensures answer { result ≡ some_within (first + block_size) (workers_of log.now) }
 {
     let n = event_log::worker_count(log);
-    let mut w: usize = 0;
-    while w < n {
-        if events_fault(log, w, first) {
-            return true;
-        }
-        w += 1;
-    }
-    false
+    (0..n).any(|w| events_fault(log, w, first))
 }
 
 // The largest event count of a worker.
@@ -182,10 +140,8 @@ fn most_events(log: &[u8]) -> u32
 {
     let n = event_log::worker_count(log);
     let mut most: u32 = 0;
-    let mut w: usize = 0;
-    while w < n {
-        most = ranges::larger(most, event_log::event_count(log, w));
-        w += 1;
+    for w in 0..n {
+        most = most.max(event_log::event_count(log, w));
     }
     most
 }
@@ -196,12 +152,10 @@ pub fn some_event(log: &[u8]) -> bool
     ensures answer { result ≡ some_record 0 (workers_of log.now) }
 {
     let most = most_events(log);
-    let mut first: u32 = 0;
-    while first < most {
+    for first in (0..most).step_by(BLOCK as usize) {
         if block_fault(log, first) {
             return true;
         }
-        first += BLOCK;
     }
     false
 }

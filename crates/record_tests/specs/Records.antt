@@ -6,6 +6,8 @@ use Rattle.records.specs.declared.Event.{Event}
 use Rattle.records.specs.declared.Checkpoint.{Checkpoint}
 use Rattle.event_log.specs.Model.{Workers, worker_count, event_count, event_of, checkpoint_count, checkpoint_of}
 use Rattle.records.specs.Event.{is_send, is_receive}
+use Rattle.record_tests.specs.declared.RecordTest.{RecordTest}
+use Rattle.record_tests.specs.declared.RecordTest.TheVariants.{Fields, Stamps, Sources, Orders, Checkpoints}
 
 -- "Kind 1 is a send, 2 a receive .., 3 a receive .."
 unfoldable pub kind_fault : Event → Bool
@@ -73,3 +75,11 @@ worker_fault test log w = any_below (record_fault test log w) (record_count test
 -- whether some record of the log has the fault of this number
 unfoldable pub some_record : ℕ → Workers → Bool
 some_record test log = any_below (worker_fault test log) (worker_count log)
+
+-- the number of each test
+abbrev pub test_number : RecordTest → ℕ
+test_number Fields = 7
+test_number Stamps = 8
+test_number Sources = 9
+test_number Orders = 10
+test_number Checkpoints = 11

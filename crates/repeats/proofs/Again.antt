@@ -17,10 +17,7 @@ use Rattle.lent.specs.Lent.{at}
 use Rattle.records.specs.declared.Event.{Event}
 use Rattle.event_log.specs.Model.{Workers, worker_count, event_count, event_of}
 use Rattle.records.specs.Event.{is_receive}
-use Rattle.event_log.specs.Header.{layout_refusal}
-use Rattle.event_log.specs.Layout.{workers_of}
-use Rattle.event_log.specs.Limits.{max_workers}
-use Rattle.event_log.proofs.Read.{workers_few, worker_within}
+use Rattle.event_log.proofs.Read.{worker_within}
 use Rattle.repeats.specs.Repeats.{same_send, repeats, repeated_by, is_repeated, worker_repeats, some_repeat}
 use Rattle.repeats.specs.Inner.Again.{Messages, same_as, again, worker_again, some_again}
 
@@ -178,6 +175,15 @@ module _ (log : Workers) where
         let no : ⊥ = omega arith in
         no)
 
+    -- the same, of the event as it was read and the number before the send that it names
+    pub rising_read : Messages log → {e : Event} → e ≡ event_of log w (k + 1) → {before : ℕ} → (0 < e.send → before + 1 ≡ e.send) → at row e.peer ≤ before
+        → again log w k ≡ false
+    rising_read messages read number kept =
+        rising_next
+        (λ receive.
+        let next = number (rw read (messages.named w k receive).0) in
+        rw (← read) (omega arith))
+
     pub rising_more : (event_of log w (k + 1)).peer < length row
         → Rising w (k + 1) (set row (event_of log w (k + 1)).peer (max (at row (event_of log w (k + 1)).peer) (event_of log w (k + 1)).send))
     rising_more within = record { each = each }
@@ -196,11 +202,3 @@ module _ (log : Workers) where
             (λ (there : (event_of log w (j + 1)).peer ≢ peer). rw (get_or-set_other row peer (event_of log w (j + 1)).peer new 0 there) held)
             (eq_or_ne (event_of log w (j + 1)).peer peer))
             (eq_or_ne j k)
-
--- the peer of an event has a place in a row of the most workers
-pub peer_few : (s : List ℕ) → layout_refusal s ≡ 0 → Messages (workers_of s) → (w k : ℕ) → k < event_count (workers_of s) w
-    → (event_of (workers_of s) w (k + 1)).peer < max_workers
-peer_few s ok messages w k h =
-    let peer = messages.peers w k h in
-    let few = workers_few s ok in
-    omega arith

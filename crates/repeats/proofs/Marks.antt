@@ -4,9 +4,9 @@ use mathlib.Core.Path.{◌≡◌, refl, sym, ◌∙◌}
 use mathlib.Core.Bool.{Bool, true, false, cond, ◌&&◌, ◌||◌, false≢true, or-false, or_assoc, or-true, and-false, and-true}
 use mathlib.Core.Logic.{⊎_elim, ◌≢◌}
 use mathlib.Core.List.{List}
-use Prim.Native.Nat.{ℕ, ◌+◌, ◌-◌, ◌<◌, ◌≤◌, max}
+use Prim.Native.Nat.{ℕ, ◌+◌, ◌-◌, ◌<◌, max}
 use native.Mathlib.Omega.{arith}
-use borrow.Author.Tests.{eq-eqb, ne_eqb, eqb-true, leb-true, ltb-true, le-leb, lt-leb, lt-ltb, le-ltb}
+use borrow.Author.Tests.{eq-eqb, ne_eqb, eqb-true, leb-true, ltb-true, le-leb, lt-ltb}
 use lib.Dec.{eqb, leb, ltb}
 use lib.ListN.{replicate}
 use Rattle.ranges.specs.Fold.{any_below}
@@ -21,20 +21,6 @@ use Rattle.repeats.specs.Inner.Table.{table_bits, bit_at, marked, place_of, has_
 use Rattle.repeats.proofs.Again.{Same, again_from, again_by, one_worker}
 use Rattle.repeats.proofs.Bits.{bit_none, marked_bit, marked_length}
 use Rattle.repeats.proofs.Places.{received_one, received_none, received_small, place_same, place_of_same}
-
--- ---- a number before the bits of the table, past them, and among them
-module _ (log : Workers) (low : ℕ) (e : Event) (table : List ℕ) where
-  pub bit_before : place_of log e < low → has_bit log low e table ≡ false
-  unfolding has_bit
-  bit_before h = rw (lt-leb low (place_of log e) h)
-
-  pub bit_past : low ≤ place_of log e → table_bits table ≤ place_of log e - low → has_bit log low e table ≡ false
-  unfolding has_bit
-  bit_past h l = rw (le-leb low (place_of log e) h, le-ltb (place_of log e) (low + table_bits table) (omega arith))
-
-  pub bit_among : low ≤ place_of log e → place_of log e - low < table_bits table → has_bit log low e table ≡ true
-  unfolding has_bit
-  bit_among h l = rw (le-leb low (place_of log e) h, lt-ltb (place_of log e) (low + table_bits table) (omega arith))
 
 module _ (log : Workers) (low : ℕ) where
   -- no bit is marked

@@ -15,15 +15,12 @@ ghost use Rattle.repeats.specs.Inner.Table.{table_after, found_marked, Numbered,
 
 use records::Event;
 
-// The number before the send that an event names, and one above every index where it names none: one comparison then serves every kind.
+// The number before the send that an event names. Where it names none this wraps to one above every index: one comparison then serves every
+// kind, with no branch.
 fn before_send(e: Event) -> u32
     ensures answer { 0 < e.send → result + 1 ≡ e.send }
 {
-    let send = e.send;
-    if send == 0 {
-        return records::NO_SEND;
-    }
-    send - 1
+    e.send.wrapping_sub(1)
 }
 
 // Whether a receive of worker w names no later send of its peer than a receive before it: only such a one may name a send again.
@@ -34,16 +31,14 @@ fn worker_falls(log: &[u8], w: usize) -> bool
     let start = event_log::event_start(log, w);
     let events = event_log::event_count(log, w) as usize;
     let mut row = [0u32; event_log::MAX_WORKERS];
-    let mut k: usize = 0;
-    while k < events {
+    for k in 0..events {
         let e = event_log::event_in(log, start, events, k);
         let peer = e.peer as usize;
         let last = row[peer];
         if before_send(e) < last {
             return true;
         }
-        row[peer] = ranges::larger(last, e.send);
-        k += 1;
+        row[peer] = last.max(e.send);
     }
     false
 }
@@ -54,14 +49,7 @@ fn some_falls(log: &[u8]) -> bool
     ensures rises { result ≡ false → some_again (workers_of log.now) ≡ false }
 {
     let n = event_log::worker_count(log);
-    let mut w: usize = 0;
-    while w < n {
-        if worker_falls(log, w) {
-            return true;
-        }
-        w += 1;
-    }
-    false
+    (0..n).any(|w| worker_falls(log, w))
 }
 
 // The bits of a word of a table.
@@ -88,11 +76,9 @@ fn number_events(log: &[u8], firsts: &mut [u32]) -> usize
 {
     let n = event_log::worker_count(log);
     let mut next: u32 = 0;
-    let mut w: usize = 0;
-    while w < n {
+    for w in 0..n {
         firsts[w] = next;
         next += event_log::event_count(log, w);
-        w += 1;
     }
     next as usize
 }
@@ -113,10 +99,7 @@ fn mark_event(log: &[u8], firsts: &[u32], low: usize, e: Event, table: &mut [u32
     ensures table { table.new ≡ table_after (workers_of log.now) low e table.old }
 {
     let place = place_of(log, firsts, e);
-    if place < low {
-        return false;
-    }
-    if WORD_BITS * table.len() <= place - low {
+    if place < low || WORD_BITS * table.len() <= place - low {
         return false;
     }
     mark(table, place - low, records::received(e))
@@ -131,13 +114,11 @@ fn mark_worker(log: &[u8], w: usize, firsts: &[u32], low: usize, table: &mut [u3
 {
     let start = event_log::event_start(log, w);
     let events = event_log::event_count(log, w) as usize;
-    let mut k: usize = 0;
-    while k < events {
+    for k in 0..events {
         let e = event_log::event_in(log, start, events, k);
         if mark_event(log, firsts, low, e, table) {
             return true;
         }
-        k += 1;
     }
     false
 }
@@ -149,12 +130,10 @@ fn mark_all(log: &[u8], firsts: &[u32], low: usize, table: &mut [u32]) -> bool
     ensures answer { result ≡ some_again_within (workers_of log.now) low (low + table_bits table.old) }
 {
     let n = event_log::worker_count(log);
-    let mut w: usize = 0;
-    while w < n {
+    for w in 0..n {
         if mark_worker(log, w, firsts, low, table) {
             return true;
         }
-        w += 1;
     }
     false
 }
@@ -165,21 +144,14 @@ const FEW_WORDS: usize = 256;
 
 const MANY_WORDS: usize = 16384;
 
-// Whether a send is received twice, of those that have a bit in the small table from number `low` on.
-fn few_repeat(log: &[u8], firsts: &[u32], low: usize) -> bool
-    requires { (layout_refusal log.now ≡ 0) × Messages (workers_of log.now) × Numbered (workers_of log.now) firsts.now }
-    ensures answer { result ≡ some_again_within (workers_of log.now) low (low + word_bits * few_words) }
+// Whether a send is received twice, of those that have a bit in a table of WORDS words from number `low` on. It is no part of its callers, so a
+// log that needs no large table does not have it in its frames.
+#[inline(never)]
+fn repeat_within<const WORDS: usize>(log: &[u8], firsts: &[u32], low: usize) -> bool
+    requires { (layout_refusal log.now ≡ 0) × Messages (workers_of log.now) × Numbered (workers_of log.now) firsts.now × (WORDS ≤ many_words) }
+    ensures answer { result ≡ some_again_within (workers_of log.now) low (low + word_bits * WORDS) }
 {
-    let mut table = [0u32; FEW_WORDS];
-    mark_all(log, firsts, low, &mut table)
-}
-
-// Whether a send is received twice, of those that have a bit in the large table from number `low` on.
-fn many_repeat(log: &[u8], firsts: &[u32], low: usize) -> bool
-    requires { (layout_refusal log.now ≡ 0) × Messages (workers_of log.now) × Numbered (workers_of log.now) firsts.now }
-    ensures answer { result ≡ some_again_within (workers_of log.now) low (low + word_bits * many_words) }
-{
-    let mut table = [0u32; MANY_WORDS];
+    let mut table = [0u32; WORDS];
     mark_all(log, firsts, low, &mut table)
 }
 
@@ -196,19 +168,14 @@ fn repeats_from(log: &[u8], low: usize) -> bool
     }
     let mut firsts = [0u32; event_log::MAX_WORKERS];
     let events = number_events(log, &mut firsts);
-    if events <= low {
-        return false;
-    }
-    if !some_falls(log) {
+    if events <= low || !some_falls(log) {
         return false;
     }
     if events <= WORD_BITS * FEW_WORDS {
-        return few_repeat(log, &firsts, low);
+        return repeat_within::<FEW_WORDS>(log, &firsts, low);
     }
-    if repeats_from(log, low + WORD_BITS * MANY_WORDS) {
-        return true;
-    }
-    many_repeat(log, &firsts, low)
+    repeats_from(log, low + WORD_BITS * MANY_WORDS)
+        || repeat_within::<MANY_WORDS>(log, &firsts, low)
 }
 
 // Test 24: whether the log is of the form in which a send is received at most once, and has two receives of one send.

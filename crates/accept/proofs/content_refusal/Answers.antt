@@ -1,7 +1,6 @@
 -- `accept::content_refusal` meets its contract: where 7 to 11 give 0 the log has what test 24 requires (`messages`), and that test decides
 -- between 24 and 0. Assumes nothing.
-use mathlib.Core.Path.{sym, ◌∙◌}
-use borrow.Author.Tests.{eq-eqb, ne_eqb}
+use Rattle.std.proofs.Common.{rules, sym, ◌∙◌}
 use Rattle.lent.specs.Lent.{or_else}
 use Rattle.accept.specs.Refusal.{content_refusal}
 use Rattle.accept.proofs.Accepted.{formed}
@@ -10,7 +9,7 @@ use Rattle.accept.proofs.content_refusal.Goals as goal
 
 pub returns-then-refusal-ne0 : goal.returns-then-refusal-ne0
 unfolding content_refusal or_else
-returns-then-refusal-ne0 c = record { answer = rw (← c.records_refusal-refusal.ensures.answer, ne_eqb _ _ c.if-refusal-ne0.true) }
+returns-then-refusal-ne0 c = search rules
 
 pub repeat_fault-requires : goal.repeat_fault-requires
 repeat_fault-requires c =
@@ -19,8 +18,8 @@ repeat_fault-requires c =
 
 pub returns-then-repeat_fault : goal.returns-then-repeat_fault
 unfolding content_refusal or_else
-returns-then-repeat_fault c = record { answer = rw (← c.records_refusal-refusal.ensures.answer, eq-eqb _ _ c.if-refusal-ne0.false, ← c.repeat_fault.ensures.answer, c.if-repeat_fault.true) }
+returns-then-repeat_fault c = search rules
 
 pub returns : goal.returns
 unfolding content_refusal or_else
-returns c = record { answer = rw (← c.records_refusal-refusal.ensures.answer, eq-eqb _ _ c.if-refusal-ne0.false, ← c.repeat_fault.ensures.answer, c.if-repeat_fault.false) }
+returns c = search rules

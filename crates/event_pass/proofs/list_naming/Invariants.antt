@@ -1,5 +1,4 @@
 use mathlib.Core.Path.{◌≡◌}
-use Prim.Native.Nat.{◌-◌, ◌≤◌}
 use lib.ListN.{length}
 use Rattle.event_log.specs.Layout.{workers_of}
 use Rattle.event_log.specs.Model.{event_of}
@@ -8,7 +7,4 @@ use Rattle.event_pass.proofs.list_naming.Given as goal
 
 abbrev pub invariant-loop-k : goal.invariant-loop-k
 invariant-loop-k l =
-    Lists (workers_of l.log) l.w l.first l.k l.list l.count × (l.k ≤ l.end) × (length l.list ≡ block_size) × (l.before ≡ (event_of (workers_of l.log) l.w l.k).stamp)
-
-abbrev pub decreases-loop-k : goal.decreases-loop-k
-decreases-loop-k l = l.end - l.k
+    Lists (workers_of l.log) l.w l.first l.k l.list l.count × (length l.list ≡ block_size) × (l.before ≡ (event_of (workers_of l.log) l.w l.k).stamp)

@@ -1,12 +1,8 @@
 use mathlib.Core.Path.{◌≡◌}
 use mathlib.Core.Bool.{false}
-use Prim.Native.Nat.{◌-◌}
 use Rattle.event_log.specs.Layout.{workers_of}
 use Rattle.event_pass.specs.Inner.Blocks.{some_within}
 use Rattle.event_pass.proofs.some_event.Given as goal
 
 abbrev pub invariant-loop-first : goal.invariant-loop-first
 invariant-loop-first l = some_within l.first (workers_of l.log) ≡ false
-
-abbrev pub decreases-loop-first : goal.decreases-loop-first
-decreases-loop-first l = l.most - l.first

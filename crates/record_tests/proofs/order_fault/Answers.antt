@@ -1,14 +1,13 @@
--- `record_tests::order_fault` meets its contract: the branch is taken where the event is no receive, which is no fault; a receive is
--- compared with the event that it names. Assumes nothing.
+-- `record_tests::order_fault` meets its contract: a receive is compared with the event that it names, and any other event has no fault.
+-- Assumes nothing.
+use Rattle.std.proofs.Common.{rules}
 use Rattle.record_tests.specs.Records.{order_fault}
-use mathlib.Core.Path.{sym}
-use mathlib.Core.Path.{◌∙◌}
 use Rattle.record_tests.proofs.order_fault.Goals as goal
 
-pub returns-then-not-is_receive : goal.returns-then-not-is_receive
+pub returns-then-is_receive : goal.returns-then-is_receive
 unfolding order_fault
-returns-then-not-is_receive c = record { answer = rw (sym c.is_receive.ensures.answer ∙ c.if-not-is_receive.true) }
+returns-then-is_receive c = search rules
 
-pub returns : goal.returns
+pub returns-else-is_receive : goal.returns-else-is_receive
 unfolding order_fault
-returns c = record { answer = rw ((sym c.is_receive.ensures.answer ∙ c.if-not-is_receive.false), ← c.send_of-source.ensures.answer) }
+returns-else-is_receive c = search rules

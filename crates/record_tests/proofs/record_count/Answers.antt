@@ -1,13 +1,12 @@
--- `record_tests::record_count` meets its contract: the branch is taken for test 11, which looks at checkpoints; every other test looks at
--- events. Assumes nothing.
-use borrow.Author.Tests.{eq-eqb, ne_eqb}
+-- `record_tests::record_count` meets its contract: test 11 looks at checkpoints, and every other test at events. Assumes nothing.
+use Rattle.std.proofs.Common.{rules}
 use Rattle.record_tests.specs.Records.{record_count}
 use Rattle.record_tests.proofs.record_count.Goals as goal
 
-pub returns-then-test-eq11 : goal.returns-then-test-eq11
+pub returns-in-Checkpoints : goal.returns-in-Checkpoints
 unfolding record_count
-returns-then-test-eq11 c = record { answer = rw (eq-eqb _ _ c.if-test-eq11.true) c.checkpoint_count.ensures.answer }
+returns-in-Checkpoints c = search rules
 
-pub returns : goal.returns
+pub returns-in_default : goal.returns-in_default
 unfolding record_count
-returns c = record { answer = rw (ne_eqb _ _ c.if-test-eq11.false) c.event_count.ensures.answer }
+returns-in_default c = search rules

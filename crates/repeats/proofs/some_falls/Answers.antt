@@ -1,23 +1,16 @@
--- `repeats::some_falls` meets its contract: after w turns none of the first w workers receives a send again, since `worker_falls` said no
--- of each of them. Assumes nothing.
-use mathlib.Core.Path.{refl, sym}
-use mathlib.Core.Bool.{false≢true}
-use Rattle.ranges.proofs.Any.{sought_none, sought_more, sought_end}
-use Rattle.repeats.specs.Inner.Again.{some_again}
+-- `repeats::some_falls` meets its contract: where `any` says no, `worker_falls` said no of each worker (`none_in_range`), and none of them
+-- receives a send again. Assumes nothing.
+use Rattle.std.proofs.Common.{rules, ◌≡◌, false, refl, ℕ}
+use Rattle.std.proofs.lemmas.Iterator.{YieldsList-from_range}
+use Rattle.ranges.proofs.Any.{any_every}
+use Rattle.event_log.specs.Layout.{workers_of}
+use Rattle.repeats.specs.Inner.Again.{worker_again, some_again}
+use Rattle.repeats.proofs.Ranges.{none_in_range}
 use Rattle.repeats.proofs.some_falls.Goals as goal
-
-pub loop-w-preserved : goal.loop-w-preserved
-loop-w-preserved c = sought_more c.loop-w.invariant c.loop-w-test.true refl (c.worker_falls.ensures.rises c.if-worker_falls.false)
 
 pub returns : goal.returns
 unfolding some_again
-returns c = record { rises = λ rises. sym (sought_end c.loop-w.invariant c.loop-w-test.false c.worker_count-n.ensures.answer) }
-
-pub loop-w-init : goal.loop-w-init
-loop-w-init c = sought_none
-
-pub worker_falls-requires : goal.worker_falls-requires
-worker_falls-requires c = c.requires
-
-pub returns-then-worker_falls : goal.returns-then-worker_falls
-returns-then-worker_falls c = record { rises = λ rises. absurd (false≢true (sym rises)) }
+returns c = record {
+  rises = λ no. any_every _ _ (λ w h. none_in_range (λ (v : ℕ). worker_again (workers_of c.args.log.now) v ≡ false) _ _ _ c.any.ensures.ran
+      (YieldsList-from_range 0 _ _ refl refl) (λ x q k. search rules) no w (rw c.worker_count-n.ensures.answer h));
+}

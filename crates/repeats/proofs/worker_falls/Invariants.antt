@@ -1,5 +1,4 @@
 use mathlib.Core.Path.{◌≡◌}
-use Prim.Native.Nat.{◌-◌}
 use lib.ListN.{length}
 use Rattle.ranges.proofs.Any.{Sought}
 use Rattle.event_log.specs.Limits.{max_workers}
@@ -10,6 +9,3 @@ use Rattle.repeats.proofs.worker_falls.Given as goal
 
 abbrev pub invariant-loop-k : goal.invariant-loop-k
 invariant-loop-k l = Rising (workers_of l.log) l.w l.k l.row × Sought (again (workers_of l.log) l.w) l.events l.k × (length l.row ≡ max_workers)
-
-abbrev pub decreases-loop-k : goal.decreases-loop-k
-decreases-loop-k l = l.events - l.k
