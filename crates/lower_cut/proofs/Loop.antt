@@ -61,8 +61,9 @@ pub record Going (log : Workers) (i first e : ℕ) (cut rows₀ : List ℕ) (vis
   pub rest : below ≡ rows_below (length rows₀) n
 
 -- no turn is copied yet, and the row is stale
-pub going_new : {log : Workers} {i first e : ℕ} {cut rows : List ℕ} {visits n below : ℕ} {workers events : List ℕ} → WellFormed log → Visiting log i first e cut visits → first ≤ e → n ≡ worker_count log
-    → n ≤ length rows → below ≡ rows_below (length rows) n → Going log i first e cut rows visits n below (record { cut = cut; visits = visits + 1 }) rows workers events true turns_at_once 0
+pub going_new : {log : Workers} {i first e : ℕ} {cut rows : List ℕ} {visits n below : ℕ} {workers events : List ℕ} → WellFormed log
+    → Visiting log i first e cut visits → first ≤ e → n ≡ worker_count log → n ≤ length rows → below ≡ rows_below (length rows) n
+    → Going log i first e cut rows visits n below (record { cut = cut; visits = visits + 1 }) rows workers events true turns_at_once 0
 going_new ok pre within size enough rest =
     record {
       turning = record { ok = ok; pre = pre; size = size; few = omega arith; now = sym (sweep_none _ _) };

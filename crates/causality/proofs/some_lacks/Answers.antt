@@ -6,7 +6,12 @@ use Rattle.refusals.proofs.Allowed.{under}
 use Rattle.causality.proofs.some_lacks.Goals as goal
 
 pub any-requires-clause-callable : goal.any-requires-clause-callable
-any-requires-clause-callable c = serves_from_Range (λ x q k. search rules) (λ x low high. let inside = rw c.worker_count-n.ensures.answer at high in let few = under _ _ c.requires.2 x inside in search rules)
+any-requires-clause-callable c =
+    serves_from_Range (λ x q k. search rules)
+    (λ x low high.
+    let inside = rw c.worker_count-n.ensures.answer at high in
+    let few = under _ _ c.requires.2 x inside in
+    search rules)
 
 pub returns : goal.returns
 returns c = record {
