@@ -4,7 +4,7 @@ use mathlib.Core.Path.{◌≡◌, refl, sym, ◌∙◌}
 use mathlib.Core.Bool.{Bool, true, false, ◌&&◌, false≢true}
 use mathlib.Core.Logic.{⊎_elim}
 use mathlib.Core.List.{List}
-use Prim.Native.Nat.{ℕ, ◌+◌, ◌<◌, max}
+use Prim.Native.Nat.{ℕ, ◌+◌, ◌<◌, ◌≤◌, max}
 use native.Mathlib.Nat.{max-zero}
 use native.Mathlib.Omega.{arith}
 use borrow.Author.Tests.{le-ltb}
@@ -12,14 +12,20 @@ use lib.Dec.{ltb}
 use lib.ListN.{set}
 use lib.Seq.{set-get_or}
 use Rattle.records.specs.declared.Event.{Event}
+use Rattle.event_log.specs.Limits.{max_events}
 use Rattle.event_log.specs.Layout.{workers_of}
 use Rattle.event_log.specs.Model.{worker_count, event_count, event_of}
 use Rattle.records.specs.Event.{is_receive}
+use Rattle.event_log.proofs.Read.{count_field}
 use Rattle.accept.specs.Refusal.{log_refusal}
-use Rattle.accept.proofs.Accepted.{well_formed}
+use Rattle.accept.proofs.Accepted.{accepted_layout, well_formed}
 use Rattle.lent.specs.Lent.{at}
 use Rattle.causality.specs.Cut.{lacks}
 use Rattle.causality.specs.Inner.Row.{noted}
+
+-- a worker has few events
+pub events_few : (s : List ℕ) → log_refusal s ≡ 0 → (w : ℕ) → event_count (workers_of s) w ≤ max_events
+events_few s accepted w = (count_field s (accepted_layout s accepted) w).1
 
 -- event k + 1 of worker w
 module _ (s : List ℕ) (accepted : log_refusal s ≡ 0) (w k : ℕ) (e : Event) (q : e ≡ event_of (workers_of s) w (k + 1)) (h : k < event_count (workers_of s) w) where

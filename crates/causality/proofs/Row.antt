@@ -55,9 +55,6 @@ module _ (log : Workers) (i from : ℕ) where
   unfolding named_row
   row_at k v h = get_d_tabulate (largest_after log i from k) (worker_count log) v 0 h
 
-  pub row_room : (k : ℕ) (row : List ℕ) → row ≡ named_row log i from k → (v : ℕ) → v < worker_count log → v < length row
-  row_room k row q v h = rw (q, row_length k) h
-
   -- one event more
   module _ (k : ℕ) (low : from ≤ k) where
     noted_at : (v : ℕ) → v < worker_count log → at (noted (event_of log i (k + 1)) (named_row log i from k)) v ≡ largest_after log i from (k + 1) v

@@ -1,5 +1,5 @@
 // Dependency vectors and the cut test of a log.
-#![tactic(auto)]
+#![tactic(auto, using(accept::proofs::Accepted::accepted_layout, crate::proofs::Peers::events_few, crate::proofs::Peers::peer_within))]
 
 ghost use Rattle.std.specs.Prelude.{◌≡◌, false, [], ◌∷◌, ◌+◌, ◌<◌, ◌≤◌, length, take, replicate};
 ghost use Rattle.ranges.specs.Fold.{any_below, first_from};
@@ -25,9 +25,8 @@ fn note(log: &[u8], i: usize, k: u32, words: &mut [u32])
     ensures words { words.new ≡ noted (event_of (workers_of log.now) i (k + 1)) words.old }
 {
     let e = event_log::event_at(log, i, k + 1);
-    let peer = e.peer as usize;
-    let held = words[peer];
-    words[peer] = ranges::larger(held, e.send);
+    let word = &mut words[e.peer as usize];
+    *word = (*word).max(e.send);
 }
 
 // Notes events from + 1 .. event of worker i in words that are 0.
@@ -35,10 +34,8 @@ fn note_all(log: &[u8], i: usize, from: u32, event: u32, words: &mut [u32])
     requires { (log_refusal log.now ≡ 0) × (words.old ≡ replicate (worker_count (workers_of log.now)) 0) × (from ≤ event) × (event ≤ event_count (workers_of log.now) i) }
     ensures words { words.new ≡ named_row (workers_of log.now) i from event }
 {
-    let mut k = from;
-    while k < event {
+    for k in from..event {
         note(log, i, k, words);
-        k += 1;
     }
 }
 
@@ -47,7 +44,7 @@ pub fn row_into(log: &[u8], i: usize, from: u32, event: u32, words: &mut [u32])
     requires { (log_refusal log.now ≡ 0) × (length words.old ≡ worker_count (workers_of log.now)) × (from ≤ event) × (event ≤ event_count (workers_of log.now) i) }
     ensures words { words.new ≡ named_row (workers_of log.now) i from event }
 {
-    lent::clear(words);
+    words.fill(0);
     note_all(log, i, from, event, words);
 }
 
@@ -89,14 +86,9 @@ pub fn first_lacking(log: &[u8], cut: &[u32], w: usize, from: u32, last: u32) ->
     requires { (log_refusal log.now ≡ 0) × (worker_count (workers_of log.now) ≤ length cut.now) × (last ≤ event_count (workers_of log.now) w) }
     ensures answer { result ≡ first_from (lacks (workers_of log.now) cut.now w) from last }
 {
-    let mut k = from;
-    while k < last {
-        if is_lacking(log, cut, w, k) {
-            return k;
-        }
-        k += 1;
-    }
-    last
+    (from..last)
+        .find(|&k| is_lacking(log, cut, w, k))
+        .unwrap_or(last)
 }
 
 fn worker_lacks(log: &[u8], cut: &[u32], w: usize) -> bool
@@ -115,14 +107,7 @@ fn some_lacks(log: &[u8], cut: &[u32]) -> bool
     ensures answer { result ≡ any_below (worker_lacks (workers_of log.now) cut.now) (worker_count (workers_of log.now)) }
 {
     let n = event_log::worker_count(log);
-    let mut w: usize = 0;
-    while w < n {
-        if worker_lacks(log, cut, w) {
-            return true;
-        }
-        w += 1;
-    }
-    false
+    (0..n).any(|w| worker_lacks(log, cut, w))
 }
 
 // Whether some word is over its worker's event count.
@@ -131,14 +116,7 @@ fn some_over_count(log: &[u8], words: &[u32]) -> bool
     ensures answer { result ≡ any_below (over_count (workers_of log.now) words.now) (worker_count (workers_of log.now)) }
 {
     let n = event_log::worker_count(log);
-    let mut w: usize = 0;
-    while w < n {
-        if event_log::event_count(log, w) < words[w] {
-            return true;
-        }
-        w += 1;
-    }
-    false
+    (0..n).any(|w| event_log::event_count(log, w) < words[w])
 }
 
 // The log's refusals, then 14 and 16, of the cut test.

@@ -150,3 +150,8 @@ module _ (log : Workers) (b : ℕ) (firsts table : List ℕ) (blocks : Blocks lo
     pub place_holds : at table (at firsts w + x / 2 ^ b) ≡ (interval_at log w (index (x / 2 ^ b * 2 ^ b))).0
     unfolding block_interval
     place_holds = rw (blocks.first w h) (blocks.holds w (x / 2 ^ b) h (block_within log b w x within))
+
+-- what the code asks of the numbers of blocks, of the loops that write them, and of a block in the table
+pub ruleset number_laws = (shr_le, number_few, blocks_few, end_few, first_none, first_more, first_few, blocks_before)
+
+pub ruleset block_laws = (number_laws, interval_none, number_is, row_none, row_more, filled_none, filled_more, place_within, place_holds)

@@ -1,6 +1,6 @@
 // The interval of a worker at any of its events, from a table of the intervals at every 2^b-th event: a count from the first event for each
 // receive would take events times events.
-#![tactic(auto)]
+#![tactic(auto, using(crate::proofs::BlockLaws::block_laws))]
 
 ghost use Rattle.std.specs.Prelude.{◌≡◌, ◌+◌, ◌*◌, ◌^◌, ◌<◌, ◌≤◌, min, length};
 ghost use Rattle.event_log.specs.Header.{layout_refusal};
@@ -13,6 +13,7 @@ ghost use Rattle.interval_blocks.specs.Inner.Row.{Row};
 use intervals::{EventIndex, IntervalNumber};
 
 // How many blocks of 2^b events worker w has: the last one begins at or before its last event.
+#[tactic(auto, using(crate::proofs::BlockLaws::block_laws), unfolding(crate::specs::Inner::Blocks::blocks_of))]
 fn blocks_of(log: &[u8], b: u32, w: usize) -> usize
     requires { (layout_refusal log.now ≡ 0) × (b ≤ most_bits) }
     ensures answer { result ≡ blocks_of (workers_of log.now) b w }
@@ -27,10 +28,8 @@ pub fn all_blocks(log: &[u8], b: u32) -> usize
 {
     let n = event_log::worker_count(log);
     let mut blocks: usize = 0;
-    let mut w: usize = 0;
-    while w < n {
+    for w in 0..n {
         blocks += blocks_of(log, b, w);
-        w += 1;
     }
     blocks
 }
@@ -40,12 +39,8 @@ fn block_end(log: &[u8], b: u32, w: usize, j: usize) -> EventIndex
     requires { (layout_refusal log.now ≡ 0) × (b ≤ most_bits) × (j < blocks_of (workers_of log.now) b w) }
     ensures answer { result ≡ index (min ((j + 1) * 2 ^ b) (event_count (workers_of log.now) w)) }
 {
-    let count = event_log::event_count(log, w);
     let end = (j as u32 + 1) << b;
-    if count < end {
-        return EventIndex(count);
-    }
-    EventIndex(end)
+    EventIndex(end.min(event_log::event_count(log, w)))
 }
 
 // Writes the intervals at the starts of the blocks of worker w to the table, from its place `first` on.
@@ -56,13 +51,11 @@ fn fill_row(log: &[u8], b: u32, w: usize, first: usize, table: &mut [u16])
     let blocks = blocks_of(log, b, w);
     let mut from = EventIndex(0);
     let mut number = IntervalNumber(0);
-    let mut j: usize = 0;
-    while j < blocks {
+    for j in 0..blocks {
         table[first + j] = number.0 as u16;
         let to = block_end(log, b, w, j);
         number = intervals::advance(log, w, from, number, to);
         from = to;
-        j += 1;
     }
 }
 
@@ -75,12 +68,10 @@ pub fn fill(log: &[u8], b: u32, firsts: &mut [u32], table: &mut [u16])
 {
     let n = event_log::worker_count(log);
     let mut first: usize = 0;
-    let mut w: usize = 0;
-    while w < n {
+    for w in 0..n {
         firsts[w] = first as u32;
         fill_row(log, b, w, first, table);
         first += blocks_of(log, b, w);
-        w += 1;
     }
 }
 

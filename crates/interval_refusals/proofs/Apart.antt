@@ -9,16 +9,19 @@ use native.Mathlib.Numerals.{add-one}
 use native.Mathlib.Omega.{arith}
 use borrow.Author.Tests.{eq-eqb, ne_eqb}
 use lib.Dec.{eqb}
-use Rattle.ranges.proofs.Any.{any_found, any_every}
+use Rattle.std.proofs.lemmas.Bool.Decides.{nat_tests}
+use Rattle.ranges.proofs.Any.{any_none, any_found, any_every}
 use Rattle.ranges.proofs.Sum.{sum_none}
 use Rattle.causality.specs.Cut.{receive_at}
 use Rattle.event_log.specs.Model.{Workers, checkpoint_count, checkpoint_of}
 use Rattle.accept.specs.WellFormed.{WellFormed}
+use Rattle.accept.proofs.Accepted.{accepted_layout, well_formed}
 use Rattle.intervals.specs.declared.EventIndex.{EventIndex}
 use Rattle.intervals.specs.declared.IntervalNumber.{IntervalNumber}
 use Rattle.intervals.specs.Interval.{index, interval_at, checkpoint_stays}
+use Rattle.pack.proofs.Writing.{start_first, start_next}
 use Rattle.interval_refusals.specs.Calls.{checkpoint_interval, fall_together, falls_together}
-use Rattle.intervals.proofs.IntervalModel.{interval_grows}
+use Rattle.intervals.proofs.IntervalModel.{interval_grows, interval_few, interval_count, kept_more, kept_same, kept_few, interval_checkpoints, interval_size}
 
 -- after the first k checkpoints of worker w: the last one that is not withdrawn, or the initial state, is after event `from`
 pub record Apart (log : Workers) (w k : ℕ) (from : EventIndex) (number free : IntervalNumber) : Type 0 where
@@ -104,3 +107,12 @@ module _ {log : Workers} {w k : ℕ} {from : EventIndex} {number free : Interval
               (eq-or-lt_of_le (le_of_suc-le-suc (rw add-one at l)));
           last = ⊎_elim (λ e. inl e) (λ found. inr (found.0, omega (arith, found.1), found.2, found.3, found.4)) so.last;
         }
+
+-- what the code asks of counts of checkpoints and receives, of the length, of a pass over the checkpoints, and of the refusals
+pub ruleset counting_laws = (accepted_layout, sum_none, kept_more, kept_same, kept_few, interval_few, interval_checkpoints, interval_count)
+
+pub ruleset length_laws = (interval_size, start_first, start_next)
+
+pub ruleset apart_laws = (accepted_layout, well_formed, any_none, apart_none, apart_order, apart_next, interval_few)
+
+pub ruleset refusal_laws = (accepted_layout, nat_tests)

@@ -1,5 +1,5 @@
 // What the conversion of a log to an interval log refuses: test 28, and the length of the interval log for 26 and 25.
-#![tactic(auto)]
+#![tactic(auto, using(crate::proofs::Apart::counting_laws))]
 
 ghost use Rattle.std.specs.Prelude.{◌≡◌, ◌≤◌};
 ghost use Rattle.event_log.specs.Header.{layout_refusal};
@@ -17,6 +17,7 @@ use pack::Packed;
 
 // Whether two recorded checkpoints of worker w that are not withdrawn fall into one interval. Indices do not fall, so each is compared with
 // the last one that is not withdrawn: `free` is the first interval behind that one's, and 0 where there is none.
+#[tactic(auto, using(crate::proofs::Apart::apart_laws), unfolding(crate::specs::Calls::worker_crowded))]
 fn worker_crowded(log: &[u8], w: usize) -> bool
     requires { log_refusal log.now ≡ 0 }
     ensures answer { result ≡ worker_crowded (workers_of log.now) w }
@@ -25,10 +26,8 @@ fn worker_crowded(log: &[u8], w: usize) -> bool
     let mut from = EventIndex(0);
     let mut number = IntervalNumber(0);
     let mut free = IntervalNumber(0);
-    let mut k: u32 = 0;
-    while k < count {
-        k += 1;
-        let checkpoint = event_log::checkpoint_at(log, w, k);
+    for k in 0..count {
+        let checkpoint = event_log::checkpoint_at(log, w, k + 1);
         if checkpoint.withdrawn {
             continue;
         }
@@ -49,14 +48,7 @@ fn crowded(log: &[u8]) -> bool
     ensures answer { result ≡ crowded (workers_of log.now) }
 {
     let n = event_log::worker_count(log);
-    let mut w: usize = 0;
-    while w < n {
-        if worker_crowded(log, w) {
-            return true;
-        }
-        w += 1;
-    }
-    false
+    (0..n).any(|w| worker_crowded(log, w))
 }
 
 // The checkpoints of worker w that are not withdrawn.
@@ -67,18 +59,16 @@ pub fn kept_count(log: &[u8], w: usize) -> u32
 {
     let count = event_log::checkpoint_count(log, w);
     let mut kept: u32 = 0;
-    let mut k: u32 = 0;
-    while k < count {
-        k += 1;
-        if event_log::checkpoint_at(log, w, k).withdrawn {
-            continue;
+    for k in 0..count {
+        if !event_log::checkpoint_at(log, w, k + 1).withdrawn {
+            kept += 1;
         }
-        kept += 1;
     }
     kept
 }
 
 // The bytes of the sections of worker w in the interval log.
+#[tactic(auto, using(crate::proofs::Apart::counting_laws), unfolding(pack::specs::Packed::sections_size))]
 fn sections_size(log: &[u8], w: usize) -> usize
     requires { layout_refusal log.now ≡ 0 }
     ensures answer { result ≡ sections_size (interval_workers (workers_of log.now)) w }
@@ -90,22 +80,22 @@ fn sections_size(log: &[u8], w: usize) -> usize
 }
 
 // The length of the interval log.
+#[tactic(auto, using(crate::proofs::Apart::length_laws), unfolding(pack::specs::Packed::packed_length))]
 fn interval_length(log: &[u8]) -> usize
     requires { layout_refusal log.now ≡ 0 }
     ensures answer { result ≡ packed_length (interval_workers (workers_of log.now)) }
 {
     let n = event_log::worker_count(log);
     let mut length = event_log::header_of(n as u32);
-    let mut w: usize = 0;
-    while w < n {
+    for w in 0..n {
         length += sections_size(log, w);
-        w += 1;
     }
     length
 }
 
 // The refusal of a call with this log that lends this many bytes, and the length of the interval log where there is none; `others` is the
 // refusal of what else the caller was lent.
+#[tactic(auto, using(crate::proofs::Apart::refusal_laws), unfolding(crate::specs::Calls::intervals_refusal, pack::specs::Calls::pack_answer, lent::specs::Lent::or_else))]
 pub fn judge(log: &[u8], lent: usize, others: u32) -> Packed
     ensures refused { result.refusal ≡ intervals_refusal (given log.now) lent others }
     ensures answer { result ≡ pack_answer result.refusal (interval_workers (workers_of log.now)) }

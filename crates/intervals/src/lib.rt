@@ -15,6 +15,7 @@ pub struct EventIndex(pub u32);
 pub struct IntervalNumber(pub u32);
 
 // The interval of worker w after event `to`, from the one after event `from`: every interval number is counted here.
+#[tactic(auto, using(event_log::proofs::Read::next_event, crate::proofs::IntervalModel::interval_next, crate::proofs::IntervalModel::interval_few))]
 pub fn advance(
     log: &[u8],
     w: usize,
@@ -27,12 +28,9 @@ pub fn advance(
 {
     let start = event_log::event_start(log, w);
     let events = event_log::event_count(log, w) as usize;
-    let end = to.0;
     let mut number = at.0;
-    let mut k = from.0;
-    while k < end {
+    for k in from.0..to.0 {
         number += records::received(event_log::event_in(log, start, events, k as usize));
-        k += 1;
     }
     IntervalNumber(number)
 }

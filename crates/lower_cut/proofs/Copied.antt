@@ -143,10 +143,6 @@ module _ {cut row : List ℕ} {v : ℕ} {workers events : List ℕ} {j w : ℕ} 
         looked = rw (add-one, add-one, ← is) (looked_none (is_above cut row) (suc w));
       }
 
-  -- all are copied
-  pub copying_all : j ≡ turns_at_once → NextTurns cut row v workers events
-  copying_all all = record { named = λ m h _. s.named m (omega arith); up_to = λ m h _. s.up_to m (omega arith) }
-
   -- no turn is left
   pub copying_stop : length row ≤ w → j ≢ turns_at_once → NextTurns cut row v (set workers j (length row)) events
   unfolding turn_of

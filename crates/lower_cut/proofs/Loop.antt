@@ -1,6 +1,6 @@
 -- What the loop of a visit keeps: the turns made, those copied from its row, and whether the row is still its own.
 -- Assumes nothing.
-use mathlib.Core.Path.{◌≡◌, refl, sym, ◌∙◌, ap}
+use mathlib.Core.Path.{◌≡◌, refl, sym, ◌∙◌}
 use mathlib.Core.Bool.{Bool, true, false, cond, not, false≢true}
 use mathlib.Core.Logic.{◌⊎◌, inl, inr, ⊎_elim, ◌≢◌}
 use mathlib.Core.List.{List, ◌++◌, append-nil}
@@ -22,7 +22,7 @@ use Rattle.lower_cut.specs.Figure2.{Found, stored, visit_at}
 use Rattle.lower_cut.specs.Inner.Turns.{turns_at_once, NextTurns, rows_below, stale_after}
 use Rattle.lower_cut.specs.Inner.Visiting.{Visiting}
 use Rattle.lower_cut.proofs.Recursion.{grown_set, visit_at_grows}
-use Rattle.lower_cut.proofs.Turns.{Turning, idle, idle_to, turned}
+use Rattle.lower_cut.proofs.Turns.{Turning, turning_room, idle, idle_to, turned}
 use Rattle.lower_cut.proofs.Copied.{Copied, copied_new, copied_grown, copied_event, copied_bound, copied_low, copied_idle, copied_next}
 
 -- ---- the rows
@@ -50,30 +50,25 @@ row_kept rows rest row n below stale before after enough is kept same fresh =
     (λ c. rw c.0 (take_at (take n rows) rest n (length-take-le n rows enough) ∙ was))
     (below_cases (length rows) n below enough is)
 
--- ---- the loop: t is the state after the turns of v of the n workers, and turn j of those copied is the next one
+-- ---- the loops: t is the state after the turns of v of the n workers, and turn j of those copied is the next one
 pub record Going (log : Workers) (i first e : ℕ) (cut rows₀ : List ℕ) (visits n below : ℕ) (t : Found) (rows workers events : List ℕ) (stale : Bool) (j v : ℕ) : Type 0 where
   pub turning : Turning log i first e cut visits n t v
   pub within : first ≤ e
-  pub few : j ≤ turns_at_once
-  pub workers_long : length workers ≡ turns_at_once
-  pub events_long : length events ≡ turns_at_once
-  pub copied : v < n → j < turns_at_once → Copied (named_row log i first e) t.cut workers events v j
+  pub copied : j < turns_at_once → Copied (named_row log i first e) t.cut workers events v j
   pub row : stale ≡ false → take n rows ≡ named_row log i first e
   pub long : length rows ≡ length rows₀
   pub enough : n ≤ length rows₀
   pub rest : below ≡ rows_below (length rows₀) n
 
--- nothing is copied yet, and the row is stale
-pub going_new : {log : Workers} {i first e : ℕ} {cut rows : List ℕ} {visits n below : ℕ} {workers events : List ℕ} → WellFormed log → Visiting log i first e cut visits → first ≤ e → n ≡ worker_count log
-    → length workers ≡ turns_at_once → length events ≡ turns_at_once → n ≤ length rows → below ≡ rows_below (length rows) n → Going log i first e cut rows visits n below (record { cut = cut; visits = visits + 1 }) rows workers events true turns_at_once 0
-going_new ok pre within size workers_long events_long enough rest =
+-- no turn is copied yet, and the row is stale
+pub going_new : {log : Workers} {i first e : ℕ} {cut rows : List ℕ} {visits n below : ℕ} {workers events : List ℕ} → WellFormed log
+    → Visiting log i first e cut visits → first ≤ e → n ≡ worker_count log → n ≤ length rows → below ≡ rows_below (length rows) n
+    → Going log i first e cut rows visits n below (record { cut = cut; visits = visits + 1 }) rows workers events true turns_at_once 0
+going_new ok pre within size enough rest =
     record {
       turning = record { ok = ok; pre = pre; size = size; few = omega arith; now = sym (sweep_none _ _) };
       within = within;
-      few = omega arith;
-      workers_long = workers_long;
-      events_long = events_long;
-      copied = λ h l. let no : ⊥ = omega arith in absurd no;
+      copied = λ l. let no : ⊥ = omega arith in absurd no;
       row = λ q. absurd (false≢true (sym q));
       long = refl;
       enough = enough;
@@ -94,26 +89,17 @@ module _ {log : Workers} {i first e : ℕ} {cut rows₀ : List ℕ} {visits n be
     going_row : take n (row ++ drop n rows) ≡ named_row log i first e
     going_row = rw filled (take_at (named_row log i first e) (drop n rows) n named_long)
 
-    pub going_row_long : length (take n (row ++ drop n rows)) ≡ n
-    going_row_long = ap length going_row ∙ named_long
-
     rows_long : length (row ++ drop n rows) ≡ length rows₀
     rows_long = rw filled (length-append (named_row log i first e) (drop n rows) ∙ rw (length-drop) (omega (arith, named_long, s.long, s.enough)))
 
-    pub going_row_few : n ≤ length (row ++ drop n rows)
-    going_row_few = rw rows_long s.enough
-
     -- the next turns are copied from it
-    pub going_copied : {next up_to : List ℕ} → length next ≡ turns_at_once → length up_to ≡ turns_at_once → NextTurns t.cut (take n (row ++ drop n rows)) v next up_to
+    pub going_copied : {next up_to : List ℕ} → NextTurns t.cut (take n (row ++ drop n rows)) v next up_to
         → Going log i first e cut rows₀ visits n below t (row ++ drop n rows) next up_to false 0 v
-    going_copied a b are =
+    going_copied are =
         record {
           turning = s.turning;
           within = s.within;
-          few = omega arith;
-          workers_long = a;
-          events_long = b;
-          copied = λ h l. copied_new (rw going_row at are);
+          copied = λ l. copied_new (rw going_row at are);
           row = λ q. going_row;
           long = rows_long;
           enough = s.enough;
@@ -121,10 +107,7 @@ module _ {log : Workers} {i first e : ℕ} {cut rows₀ : List ℕ} {visits n be
         }
 
   -- turn j is made
-  module _ (h : v < n) (left : j ≢ turns_at_once) where
-    l : j < turns_at_once
-    l = omega (arith, s.few, left)
-
+  module _ (l : j < turns_at_once) where
     abbrev w : ℕ
     w = at workers j
 
@@ -132,10 +115,10 @@ module _ {log : Workers} {i first e : ℕ} {cut rows₀ : List ℕ} {visits n be
     d = at events j
 
     next : Copied (named_row log i first e) t.cut workers events v j
-    next = s.copied h l
+    next = s.copied l
 
     low_row : v ≤ length (named_row log i first e)
-    low_row = rw named_long (omega arith)
+    low_row = rw named_long s.turning.few
 
     pub going_bound : w ≤ n
     going_bound = rw (← named_long) (copied_bound next l low_row)
@@ -152,26 +135,13 @@ module _ {log : Workers} {i first e : ℕ} {cut rows₀ : List ℕ} {visits n be
         idle_to s.turning w going_low going_bound
         (λ u low high. let idle_row = copied_idle next l low_row u low high in rw (← row_of u (omega (arith, going_bound))) idle_row)
 
-    -- there is no worker left
-    pub going_last : w ≡ n → Going log i first e cut rows₀ visits n below t rows workers events stale j w
-    going_last last =
-        record {
-          turning = going_to;
-          within = s.within;
-          few = s.few;
-          workers_long = s.workers_long;
-          events_long = s.events_long;
-          copied = λ less _. let no : ⊥ = omega arith in absurd no;
-          row = s.row;
-          long = s.long;
-          enough = s.enough;
-          rest = s.rest;
-        }
-
     -- w is a worker
     module _ (other : w ≢ n) where
       pub going_inside : w < n
       going_inside = omega (arith, going_bound, other)
+
+      pub going_room : w < length t.cut
+      going_room = turning_room going_to going_inside
 
       pub going_named : d ≡ largest_after log i first e w
       going_named = copied_event next l low_row (rw named_long going_inside) ∙ row_of w going_inside
@@ -181,10 +151,7 @@ module _ {log : Workers} {i first e : ℕ} {cut rows₀ : List ℕ} {visits n be
           record {
             turning = idle going_to going_inside (rw (← going_named) within_cut);
             within = s.within;
-            few = omega arith;
-            workers_long = s.workers_long;
-            events_long = s.events_long;
-            copied = λ _ _. copied_next next l low_row;
+            copied = λ _. copied_next next l low_row;
             row = s.row;
             long = s.long;
             enough = s.enough;
@@ -199,10 +166,7 @@ module _ {log : Workers} {i first e : ℕ} {cut rows₀ : List ℕ} {visits n be
           record {
             turning = turned going_to going_inside d going_named above found;
             within = s.within;
-            few = omega arith;
-            workers_long = s.workers_long;
-            events_long = s.events_long;
-            copied = λ _ _. copied_grown (copied_next next l low_row) grows;
+            copied = λ _. copied_grown (copied_next next l low_row) grows;
             row = λ q. rw nothing (row_kept rows rest (named_row log i first e) n below stale t.visits t'.visits (rw s.long s.enough) (rw s.long s.rest) s.row (λ z. kept z ∙ all) (sym is ∙ q));
             long = rw (nothing, length-append (take below rows) rest, length-take-le below rows few_below, same, all, length-drop) (omega (arith, few_below, s.long));
             enough = s.enough;

@@ -94,10 +94,6 @@ module _ {log : Workers} {i from e : ℕ} {cut : List ℕ} {visits n : ℕ} {t :
       (λ here. here.covered x h)
       (visited.words u)
 
-  -- the cut has as many words as it had
-  pub turning_long : length t.cut ≡ length cut
-  turning_long = visited.grown.long
-
   -- all turns are made: the visit is done
   pub ended : n ≤ v → t ≡ visit_at log i e start
   ended all =

@@ -1,12 +1,13 @@
 -- The workers word of n workers is below 2 ^ n, and its bit w says whether worker w's word of the cut is above 0. Assumes nothing.
-use mathlib.Core.Path.{◌≡◌, refl, sym, ◌∙◌, ap}
-use mathlib.Core.Logic.{⊎_elim}
+use mathlib.Core.Path.{◌≡◌, sym, ◌∙◌, ap}
+use mathlib.Core.Logic.{⊎_elim, ◌≢◌}
 use mathlib.Core.Bool.{Bool, true, false, cond}
 use mathlib.Core.List.{List}
 use Prim.Native.Nat.{ℕ, zero, suc, ◌+◌, ◌-◌, ◌*◌, ◌/◌, ◌%◌, ◌^◌, ◌<◌, ◌≤◌}
-use native.Mathlib.Nat.{not-suc-le-zero, eq-or-lt_of_le, le_of_suc-le-suc, add-zero, add_comm, one-mul, mod-eq_of_lt, pow-suc, add-mul-div_right, add-mul-mod_self_right}
+use native.Mathlib.Nat.{not-suc-le-zero, pos_of_ne-zero, eq-or-lt_of_le, le_of_suc-le-suc, add-zero, add_comm, one-mul, mod-eq_of_lt, pow-suc, add-mul-div_right, add-mul-mod_self_right}
 use native.Mathlib.Omega.{arith}
-use lib.Bits.{bit_or, or_shifted_r, or_zero_r}
+use borrow.Author.Tests.{lt-ltb}
+use lib.Bits.{bit_or, or_shifted_r}
 use lib.Dec.{ltb}
 use lib.Pow.{pow_pos, high}
 use Rattle.ranges.specs.Fold.{sum_below}
@@ -64,13 +65,13 @@ word_sum_lem : (cut : List ℕ) (w : ℕ) → workers_word cut (w + 1) ≡ worke
 unfolding workers_word
 word_sum_lem cut w = sum_more (bit_of cut) w
 
-pub word_more : (cut : List ℕ) (w : ℕ) → bit_or (workers_word cut w) (bit_of cut w) ≡ workers_word cut (w + 1)
+-- .. whose word of the cut is above 0, or is 0
+pub word_with : (cut : List ℕ) (w : ℕ) → at cut w ≢ 0 → bit_or (workers_word cut w) (2 ^ w) ≡ workers_word cut (w + 1)
 unfolding bit_of
-word_more cut w = go (ltb 0 (at cut w)) refl
-  where
-    more : workers_word cut (w + 1) ≡ workers_word cut w + bit_of cut w
-    more = word_sum_lem cut w
+word_with cut w some =
+    rw (word_sum_lem cut w, lt-ltb 0 (at cut w) (pos_of_ne-zero some))
+    (rw (one-mul (2 ^ w)) at (or_shifted_r 1 w (workers_word cut w) (word_below cut w)) ∙ add_comm (2 ^ w) (workers_word cut w))
 
-    go : (b : Bool) → ltb 0 (at cut w) ≡ b → bit_or (workers_word cut w) (bit_of cut w) ≡ workers_word cut (w + 1)
-    go true q = rw (more, q) (rw (one-mul (2 ^ w)) at (or_shifted_r 1 w (workers_word cut w) (word_below cut w)) ∙ add_comm (2 ^ w) (workers_word cut w))
-    go false q = rw (more, q) (or_zero_r (workers_word cut w) ∙ sym (add-zero (workers_word cut w)))
+pub word_without : (cut : List ℕ) (w : ℕ) → at cut w ≡ 0 → workers_word cut w ≡ workers_word cut (w + 1)
+unfolding bit_of
+word_without cut w none = rw (word_sum_lem cut w, none, add-zero)

@@ -21,11 +21,9 @@ fn next_turns(cut: &[u32], row: &[u32], v: usize, workers: &mut [u8], events: &m
 {
     let n = row.len();
     let mut j: usize = 0;
-    let mut w = v;
-    while w < n {
+    for w in v..n {
         let d = row[w];
         if d <= cut[w] {
-            w += 1;
             continue;
         }
         if j == TURNS {
@@ -34,12 +32,10 @@ fn next_turns(cut: &[u32], row: &[u32], v: usize, workers: &mut [u8], events: &m
         workers[j] = w as u8;
         events[j] = d;
         j += 1;
-        w += 1;
     }
-    if j == TURNS {
-        return;
+    if j < TURNS {
+        workers[j] = n as u8;
     }
-    workers[j] = n as u8;
 }
 
 // Fills the row of a visit if it is stale.
@@ -48,40 +44,33 @@ fn refill(log: &[u8], i: usize, from: u32, event: u32, stale: bool, row: &mut [u
         × (stale ≡ false → row.old ≡ named_row (workers_of log.now) i from event) }
     ensures row { row.new ≡ named_row (workers_of log.now) i from event }
 {
-    if !stale {
-        return;
+    if stale {
+        causality::row_into(log, i, from, event, row);
     }
-    causality::row_into(log, i, from, event, row);
 }
 
 // Where the rows of the visits below begin: behind the visit's own row, or at it where there is but one.
+#[tactic(auto, using(std::proofs::lemmas::Bool::Decides::nat_tests), unfolding(crate::specs::Inner::Turns::rows_below))]
 fn rows_below(lent: usize, n: usize) -> usize
     requires { n ≤ max_workers }
     ensures answer { result ≡ rows_below lent n }
 {
-    if lent < 2 * n {
-        return 0;
-    }
-    n
+    if lent < 2 * n { 0 } else { n }
 }
 
 // Whether a visit's row is stale after a visit below: it was, or that visit had the same row and made visits itself. `visits` and `after`
 // are the visits before and after it.
+#[tactic(auto, using(std::proofs::lemmas::Bool::Decides::nat_tests), unfolding(crate::specs::Inner::Turns::stale_after))]
 fn stale_after(stale: bool, below: usize, visits: u64, after: u64) -> bool
     requires { visits < after }
     ensures answer { result ≡ stale_after stale below visits after }
 {
-    if stale {
-        return true;
-    }
-    if below != 0 {
-        return false;
-    }
-    after != visits + 1
+    stale || below == 0 && after != visits + 1
 }
 
 // A visit to event `event` of worker i, whose first `from` events the cut covers. The stamps of the visited events fall. Its row is the
 // first n words of `rows`, and it writes none where its events name nothing above the cut.
+#[tactic(auto, using(accept::proofs::Accepted::accepted_layout, accept::proofs::Accepted::well_formed, crate::proofs::VisitCount::words_few))]
 pub fn visit(
     log: &[u8],
     i: usize,
@@ -96,42 +85,38 @@ pub fn visit(
     ensures found { record { cut = cut.exit.now; visits = result } ≡ visit_at (workers_of log.now) i event (record { cut = cut.entry.now; visits = visits }) }
     ensures kept { result ≡ visits + 1 → rows.new ≡ rows.old }
 {
-    let mut total = visits + 1;
     let first = causality::first_lacking(log, cut, i, from, event);
     if first == event {
-        return total;
+        return visits + 1;
     }
     let n = event_log::worker_count(log);
     let below = rows_below(rows.len(), n);
     let mut workers: [u8; TURNS] = [0; TURNS];
     let mut events: [u32; TURNS] = [0; TURNS];
+    let mut total = visits + 1;
     let mut stale = true;
-    let mut j = TURNS;
     let mut v: usize = 0;
+    // A while: one pass moves v by more than one.
     while v < n {
-        if j == TURNS {
-            refill(log, i, first, event, stale, &mut rows[..n]);
-            next_turns(cut, &rows[..n], v, &mut workers, &mut events);
-            stale = false;
-            j = 0;
-            continue;
+        refill(log, i, first, event, stale, &mut rows[..n]);
+        next_turns(cut, &rows[..n], v, &mut workers, &mut events);
+        stale = false;
+        for j in 0..TURNS {
+            let w = workers[j] as usize;
+            if w == n {
+                return total;
+            }
+            v = w + 1;
+            let d = events[j];
+            let old = cut[w];
+            if d <= old {
+                continue;
+            }
+            cut[w] = d;
+            let after = visit(log, w, old, d, cut, &mut rows[below..], total);
+            stale = stale_after(stale, below, total, after);
+            total = after;
         }
-        let w = workers[j] as usize;
-        let d = events[j];
-        v = w;
-        if w == n {
-            continue;
-        }
-        v = w + 1;
-        j += 1;
-        let old = cut[w];
-        if d <= old {
-            continue;
-        }
-        cut[w] = d;
-        let after = visit(log, w, old, d, cut, &mut rows[below..], total);
-        stale = stale_after(stale, below, total, after);
-        total = after;
     }
     total
 }

@@ -1,5 +1,5 @@
 // The lower cut of a breakpoint event, with the visits made and the workers word.
-#![tactic(auto)]
+#![tactic(auto, using(accept::proofs::Accepted::accepted_layout))]
 
 mod figure2;
 
@@ -31,20 +31,9 @@ fn cut_into(log: &[u8], i: usize, event: u32, cut: &mut [u32], scratch: &mut [u3
     ensures cut { cut.new ≡ lower_cut (workers_of log.now) i event }
     ensures answer { result ≡ (figure2 (workers_of log.now) i event).visits }
 {
-    lent::clear(cut);
+    cut.fill(0);
     cut[i] = event;
     figure2::visit(log, i, 0, event, cut, scratch, 0)
-}
-
-// Bit w of the workers word.
-fn bit(cut: &[u32], w: usize) -> u64
-    requires { (w < length cut.now) × (w < 64) }
-    ensures answer { result ≡ bit_of cut.now w }
-{
-    if cut[w] == 0 {
-        return 0;
-    }
-    1u64 << w
 }
 
 // The workers word of a finished cut.
@@ -53,10 +42,10 @@ fn workers_word(cut: &[u32]) -> u64
     ensures answer { result ≡ workers_word cut.now (length cut.now) }
 {
     let mut word: u64 = 0;
-    let mut w: usize = 0;
-    while w < cut.len() {
-        word = word | bit(cut, w);
-        w += 1;
+    for (w, events) in cut.iter().enumerate() {
+        if *events != 0 {
+            word |= 1u64 << w;
+        }
     }
     word
 }

@@ -266,12 +266,6 @@ abbrev pub left : Workers → List ℕ → ℕ
 left log line = max_workers * max_events - word_sum log line
 
 module _ {log : Workers} {i e w target : ℕ} {first line : List ℕ} (m : Moving log i e w target first line) where
-  pub moving_room : w < length line
-  moving_room = rw m.passed.is_cut.long m.within
-
-  pub moving_long : length line ≡ length first
-  moving_long = m.passed.is_cut.long ∙ sym m.began.is_cut.long
-
   pub moved : {new : List ℕ} → Passed log i e new → Within line new → Moving log i e w target first new
   moved p up =
       record {

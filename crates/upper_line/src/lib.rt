@@ -1,5 +1,5 @@
 // The upper line of a breakpoint event: each other worker is moved on, event by event, up to one that the breakpoint event happened before.
-#![tactic(auto)]
+#![tactic(auto, using(accept::proofs::Accepted::accepted_layout, causality::proofs::Peers::events_few, causality::proofs::Peers::peer_within))]
 
 ghost use Rattle.std.specs.Prelude.{◌≡◌, ◌≢◌, [], ◌∷◌, ◌+◌, ◌<◌, ◌≤◌, length};
 ghost use Rattle.lent.specs.Lent.{left};
@@ -18,13 +18,7 @@ fn is_blocked(log: &[u8], i: usize, event: u32, w: usize, k: u32, line: &[u32]) 
 {
     let e = event_log::event_at(log, w, k + 1);
     let peer = e.peer as usize;
-    if line[peer] < e.send {
-        return true;
-    }
-    if peer != i {
-        return false;
-    }
-    e.send == event
+    line[peer] < e.send || peer == i && e.send == event
 }
 
 // Moves worker w on to event `target`, or to just before its first event that the breakpoint event happened before. A sender is moved on
@@ -34,6 +28,7 @@ fn raise(log: &[u8], i: usize, event: u32, w: usize, target: u32, line: &mut [u3
         × (target ≤ event_count (workers_of log.now) w) × Passed (workers_of log.now) i event line.old }
     ensures line { Raised (workers_of log.now) i event w target line.old line.new }
 {
+    // A while: by its contract the call for a sender may move w on as well.
     while line[w] < target {
         let k = line[w];
         if !is_blocked(log, i, event, w, k, line) {
@@ -69,13 +64,11 @@ fn upper_into(log: &[u8], i: usize, event: u32, line: &mut [u32])
     requires { (log_refusal log.now ≡ 0) × (length line.old ≡ worker_count (workers_of log.now)) × (i < worker_count (workers_of log.now)) × IsEvent (workers_of log.now) i event }
     ensures line { line.new ≡ upper_line (workers_of log.now) i event }
 {
-    lent::clear(line);
+    line.fill(0);
     line[i] = event;
     let n = event_log::worker_count(log);
-    let mut w: usize = 0;
-    while w < n {
+    for w in 0..n {
         raise_worker(log, i, event, w, line);
-        w += 1;
     }
 }
 

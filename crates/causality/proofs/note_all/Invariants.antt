@@ -1,11 +1,7 @@
 use mathlib.Core.Path.{◌≡◌}
-use Prim.Native.Nat.{◌≤◌, ◌-◌}
 use Rattle.event_log.specs.Layout.{workers_of}
 use Rattle.causality.specs.Inner.Row.{named_row}
 use Rattle.causality.proofs.note_all.Given as goal
 
 abbrev pub invariant-loop-k : goal.invariant-loop-k
-invariant-loop-k l = (l.from ≤ l.k) × (l.k ≤ l.event) × (l.words ≡ named_row (workers_of l.log) l.i l.from l.k)
-
-abbrev pub decreases-loop-k : goal.decreases-loop-k
-decreases-loop-k l = l.event - l.k
+invariant-loop-k l = l.words ≡ named_row (workers_of l.log) l.i l.from l.k

@@ -2,20 +2,18 @@
 -- (`begun`), and the visit from there is all of Figure 2 (`figured`). Assumes nothing.
 use Rattle.lower_cut.specs.Figure2.{Found}
 use Rattle.lower_cut.proofs.Turns.{begun, figured}
-use mathlib.Core.Path.{◌∙◌, ap}
-use lib.ListN.{length-set}
+use mathlib.Core.Path.{ap}
 use Rattle.std.proofs.Common.{rules}
 use Rattle.lower_cut.proofs.cut_into.Goals as goal
 
 pub visit-requires : goal.visit-requires
 visit-requires c =
     let pre = c.requires in
-    (pre.0, search rules, begun _ _ _ _ (rw pre.1 at c.clear.ensures.words) pre.3, pre.4)
-
-pub shape_of-cut : goal.shape_of-cut
-shape_of-cut c = c.visit.auto.cut ∙ simp length-set c.clear.auto.words
+    let zeros = rw pre.1 at (c.fill.ensures.after (search rules)) in
+    (pre.0, search rules, begun _ _ _ _ zeros pre.3, pre.4)
 
 pub returns : goal.returns
 returns c =
-    let zeros = rw c.requires.1 at c.clear.ensures.words in
-    let same = figured _ _ _ _ _ zeros c.visit.ensures.found in record { cut = ap (λ (t : Found). t.cut) same; answer = ap (λ (t : Found). t.visits) same }
+    let zeros = rw c.requires.1 at (c.fill.ensures.after (search rules)) in
+    let same = figured _ _ _ _ _ zeros c.visit.ensures.found in
+    record { cut = ap (λ (t : Found). t.cut) same; answer = ap (λ (t : Found). t.visits) same }

@@ -11,9 +11,9 @@ workers_word-requires c =
     let ok = well_formed _ pre.0 in
     rw (c.cut_into-visits.ensures.cut, (lower_is _ ok _ _ pre.3).consistent.is_cut.long) ok.few
 
-pub returns : goal.returns
+pub returns-clause-answer : goal.returns-clause-answer
 unfolding found_cut
-returns c =
+returns-clause-answer c =
     let pre = c.requires in
     let found = c.cut_into-visits.ensures in
-    let long = (lower_is _ (well_formed _ pre.0) _ _ pre.3).consistent.is_cut.long in record { answer = rw (c.workers_word.ensures.answer, found.cut, found.answer, long); cut = found.cut }
+    rw (c.workers_word.ensures.answer, found.cut, found.answer, (lower_is _ (well_formed _ pre.0) _ _ pre.3).consistent.is_cut.long)

@@ -1,26 +1,21 @@
--- `lower_cut::workers_word` meets its contract: after w turns the word has the bits of the first w workers; bit w is not among them, so the
--- bitwise or adds it (`word_more`). Assumes nothing.
+-- `lower_cut::workers_word` meets its contract: after w turns the word has the bits of the first w workers; bit w, which fits 64 bits, is
+-- not among them, so the bitwise or adds it (`word_with`). Assumes nothing.
 use mathlib.Core.Path.{sym, ◌∙◌}
-use native.Mathlib.Nat.{le_antisymm}
+use Prim.Native.Nat.{◌<◌}
+use native.Mathlib.Nat.{one-mul, mod-eq_of_lt}
 use native.Mathlib.Omega.{arith}
-use Rattle.lower_cut.proofs.WorkersWord.{word_none, word_more}
-use Rattle.std.proofs.Common.{rules}
+use lib.Pow.{pow-lt}
+use Rattle.lower_cut.proofs.WorkersWord.{word_none, word_with, word_without}
 use Rattle.lower_cut.proofs.workers_word.Goals as goal
+use Rattle.lower_cut.proofs.workers_word.Goals.{then-events-ne0, else-events-ne0}
 
 pub loop-w-init : goal.loop-w-init
-loop-w-init c = (search rules, sym (word_none _))
-
-pub bit-word-requires : goal.bit-word-requires
-bit-word-requires c = (c.loop-w-test.true, omega (arith, c.requires))
-
-pub overflow_add-w : goal.overflow_add-w
-overflow_add-w c = omega (arith, c.loop-w-test.true)
-
-pub loop-w-smaller : goal.loop-w-smaller
-loop-w-smaller c = omega (arith, c.loop-w-test.true)
+loop-w-init c = sym (word_none _)
 
 pub loop-w-preserved : goal.loop-w-preserved
-loop-w-preserved c = (omega (arith, c.loop-w-test.true), rw (c.bit-word.ensures.answer, c.loop-w.invariant.1) (word_more _ _))
-
-pub returns : goal.returns
-returns c = record { answer = c.loop-w.invariant.1 ∙ rw (le_antisymm c.loop-w.invariant.0 c.loop-w-test.false) }
+loop-w-preserved c =
+    let inside : c.loop-w.w < 64 = omega arith in
+    elim c.if-events-ne0.branch [
+      | then-events-ne0 w ↦ w.word-is ∙ rw (c.loop-w.invariant, one-mul, mod-eq_of_lt (pow-lt inside)) (word_with _ _ w.if-events-ne0.true)
+      | else-events-ne0 w ↦ w.word-is ∙ c.loop-w.invariant ∙ word_without _ _ w.if-events-ne0.false
+    ]
