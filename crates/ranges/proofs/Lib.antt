@@ -2,6 +2,7 @@ pub mod Any
 pub mod Bools
 pub mod Chains
 pub mod First
+pub mod Found
 pub mod Join
 pub mod Keep
 pub mod Max
