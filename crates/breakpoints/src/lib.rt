@@ -37,10 +37,7 @@ pub fn event_of(list: &[u32], k: usize) -> u32
 fn length_refusal(words: usize) -> u32
     ensures answer { result ≡ length_refusal words }
 {
-    if words % 2 == 1 {
-        return 29;
-    }
-    if 2 * MAX_BREAKPOINTS < words {
+    if words % 2 == 1 || 2 * MAX_BREAKPOINTS < words {
         return 29;
     }
     0
@@ -52,13 +49,11 @@ fn earliest_refusal(log: &[u8], list: &[u32]) -> u32
     ensures answer { result ≡ earliest_refusal (workers_of log.now) list.now }
 {
     let all = count(list);
-    let mut k: usize = 0;
-    while k < all {
+    for k in 0..all {
         let refusal = refusals::event_in_refusal(log, worker_of(list, k), event_of(list, k));
         if refusal != 0 {
             return refusal;
         }
-        k += 1;
     }
     0
 }

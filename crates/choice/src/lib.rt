@@ -14,11 +14,7 @@ pub fn may_choose(log: &[u8], w: usize, c: u32) -> bool
     requires { log_refusal log.now ≡ 0 }
     ensures answer { result ≡ may_choose (workers_of log.now) w c }
 {
-    if event_log::checkpoint_count(log, w) < c {
-        return false;
-    }
-    let point = event_log::checkpoint_at(log, w, c);
-    !point.withdrawn
+    c <= event_log::checkpoint_count(log, w) && !event_log::checkpoint_at(log, w, c).withdrawn
 }
 
 // 0 for a receive without its data, and a number above every start for any other event.
@@ -36,5 +32,5 @@ fn above_starts(e: Event) -> u64
 pub fn loses_send(e: Event, start: u32) -> bool
     ensures answer { result ≡ loses_send e start }
 {
-    above_starts(e) + e.send as u64 <= start as u64
+    above_starts(e) + u64::from(e.send) <= u64::from(start)
 }

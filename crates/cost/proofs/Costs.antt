@@ -5,7 +5,7 @@ use mathlib.Core.Bool.{Bool, true, false, cond}
 use mathlib.Core.Logic.{◌≢◌}
 use mathlib.Core.List.{List}
 use Prim.Native.Nat.{ℕ, ◌+◌, ◌*◌, ◌^◌, ◌<◌, ◌≤◌}
-use native.Mathlib.Nat.{le_trans, mul-le-mul_right, mul-le-mul}
+use native.Mathlib.Nat.{le_trans, mul-le-mul_right}
 use native.Mathlib.Omega.{arith}
 use borrow.Author.Tests.{leb-true, le-leb}
 use lib.Dec.{leb}
@@ -19,8 +19,7 @@ use Rattle.accept.specs.WellFormed.{WellFormed}
 use Rattle.accept.proofs.Accepted.{known_kind}
 use Rattle.lent.specs.Lent.{at}
 use Rattle.causality.specs.Cut.{Within, IsCut}
-use Rattle.unit_table.specs.Table.{max_units, Table, table_of, table_refusal}
-use Rattle.unit_table.proofs.Loaded.{loaded_bound}
+use Rattle.unit_table.specs.Table.{max_units, Table}
 use Rattle.cost.specs.Cost.{replayed, events_of, event_units, worker_units, units_of}
 
 -- ---- later starts
@@ -47,11 +46,6 @@ module _ (log : Workers) (cut a b : List ℕ) (later : Within a b) where
       (λ w h. sum_le (event_units table log b w) (event_units table log a w) (at cut w) (λ k l. event_units_fall table w k))
 
 -- ---- bounds
--- the units of some events of one kind, by a loaded table
-pub product_few : (table : List ℕ) → table_refusal table ≡ 0 → (n role : ℕ) (kind : Kind) (units : ℕ) → n ≤ max_events → units ≡ table_of table role kind
-    → n * units ≤ max_events * max_units
-product_few table loaded n role kind units few q = let most : units ≤ max_units = rw q (loaded_bound table loaded role kind) in mul-le-mul few most
-
 -- a kind of the record table has a column
 known_column : (kind : Kind) → kind ≢ Rest → column kind < 3
 known_column Send h = omega arith

@@ -1,4 +1,4 @@
--- Plan words that are held over an accepted log: each worker's words, and its replayed events and units as a loop adds them up.
+-- Plan words that are held over an accepted log: each worker's words, and the sums of the replayed events and units of all.
 -- Assumes nothing.
 use mathlib.Core.Path.{◌≡◌, sym}
 use mathlib.Core.List.{List}
@@ -6,7 +6,7 @@ use Prim.Native.Nat.{ℕ, ◌+◌, ◌-◌, ◌*◌, ◌^◌, ◌<◌, ◌≤◌
 use native.Mathlib.Omega.{arith}
 use lib.ListN.{length}
 use Rattle.ranges.specs.Fold.{sum_below}
-use Rattle.ranges.proofs.Sum.{sum_more, sum_grows}
+use Rattle.ranges.proofs.Sum.{sum_same}
 use Rattle.ranges.proofs.Tabulate.{get_d_tabulate, tabulate_list}
 use Rattle.event_log.specs.Limits.{max_events}
 use Rattle.event_log.specs.Model.{Workers, worker_count, event_count}
@@ -43,48 +43,42 @@ pub starts_are : (log : Workers) (words starts : List ℕ) → length starts ≡
 unfolding starts_in
 starts_are log words starts long same = sym (tabulate_list (start_in words) (worker_count log) 0 starts long (λ w h. sym (same w h)))
 
--- what held words give worker w, and the sum of the events of the workers up to it
+-- what held words give worker w
 pub record HeldWorker (log : Workers) (words : List ℕ) (w : ℕ) : Type 0 where
   pub wide : 3 * w + 3 ≤ length words
   -- its start is at most its cut, which is at most its event count
   pub start : start_in words w ≤ cut_in words w
   pub cut : cut_in words w ≤ event_count log w
   pub most : cut_in words w ≤ max_events
-  -- one worker more
-  pub events : sum_below (replayed (cuts_in log words) (starts_in log words)) (w + 1)
-      ≡ sum_below (replayed (cuts_in log words) (starts_in log words)) w + (cut_in words w - start_in words w)
-  pub events_fit : sum_below (replayed (cuts_in log words) (starts_in log words)) (w + 1) < 2 ^ 64
 
-pub held_worker : (s words : List ℕ) → (log_refusal s ≡ 0) × IsHeld (workers_of s) words → (w : ℕ) → w < worker_count (workers_of s) → HeldWorker (workers_of s) words w
-unfolding replayed events_of
-held_worker s words (accepted, held) w h =
-    let log = workers_of s in
-    let ok = well_formed s accepted in
-    let cut = cuts_in log words in
-    let starts = starts_in log words in
-    let mine = cuts_at log words w h in
-    let within = held.is_cut.within w in
-    let next : w + 1 ≤ worker_count log = omega arith in
-    record {
-      wide = omega (arith, held.long);
-      start = omega (arith, held.within w, starts_in_at log words w h);
-      cut = omega arith;
-      most = omega (arith, ok.events w);
-      events = rw (sum_more (replayed cut starts) w, mine, starts_in_at log words w h);
-      events_fit = omega (arith, sum_grows (replayed cut starts) (w + 1) (worker_count log) next, events_fit log ok cut held.is_cut starts);
-    }
+module _ (s words : List ℕ) (given : (log_refusal s ≡ 0) × IsHeld (workers_of s) words) where
+  pub held_worker : (w : ℕ) → w < worker_count (workers_of s) → HeldWorker (workers_of s) words w
+  held_worker w h =
+      let log = workers_of s in
+      let ok = well_formed s given.0 in
+      let held = given.1 in
+      let mine = cuts_at log words w h in
+      let within = held.is_cut.within w in
+      record {
+        wide = omega (arith, held.long);
+        start = omega (arith, held.within w, starts_in_at log words w h);
+        cut = omega arith;
+        most = omega (arith, ok.events w);
+      }
 
--- the sum of the units of the workers up to it, by a loaded table
-pub held_units : (s words : List ℕ) → (log_refusal s ≡ 0) × IsHeld (workers_of s) words → (table : List ℕ) → table_refusal table ≡ 0
-    → (w : ℕ) → w < worker_count (workers_of s)
-    → sum_below (worker_units (table_of table) (workers_of s) (cuts_in (workers_of s) words) (starts_in (workers_of s) words)) w
-    + worker_units (table_of table) (workers_of s) (cuts_in (workers_of s) words) (starts_in (workers_of s) words) w < 2 ^ 64
-unfolding units_of
-held_units s words (accepted, held) table loaded w h =
-    let log = workers_of s in
-    let cut = cuts_in log words in
-    let starts = starts_in log words in
-    let units = worker_units (table_of table) log cut starts in
-    let next : w + 1 ≤ worker_count log = omega arith in
-    let all = units_fit log (well_formed s accepted) cut held.is_cut starts (table_of table) (loaded_bound table loaded) in
-    omega (arith, sum_more units w, sum_grows units (w + 1) (worker_count log) next)
+  -- all their replayed events, each worker's cut minus its start ..
+  pub held_events : sum_below (λ w. cut_in words w - start_in words w) (worker_count (workers_of s))
+      ≡ events_of (workers_of s) (cuts_in (workers_of s) words) (starts_in (workers_of s) words)
+  unfolding events_of replayed
+  held_events = sum_same _ _ (worker_count (workers_of s)) (λ w h. rw (cuts_at (workers_of s) words w h, starts_in_at (workers_of s) words w h))
+
+  -- .. fit 64 bits ..
+  pub held_events_fit : sum_below (λ w. cut_in words w - start_in words w) (worker_count (workers_of s)) < 2 ^ 64
+  held_events_fit = rw held_events (events_fit (workers_of s) (well_formed s given.0) _ given.1.is_cut _)
+
+  -- .. and their units do, by a loaded table
+  pub held_units_fit : (table : List ℕ) → table_refusal table ≡ 0
+      → sum_below (worker_units (table_of table) (workers_of s) (cuts_in (workers_of s) words) (starts_in (workers_of s) words)) (worker_count (workers_of s)) < 2 ^ 64
+  unfolding units_of
+  held_units_fit table loaded =
+      units_fit (workers_of s) (well_formed s given.0) _ given.1.is_cut _ (table_of table) (loaded_bound table loaded)

@@ -1,3 +1,4 @@
 pub mod Costs
 pub mod Held
 pub mod Counted
+pub mod Sums

@@ -52,10 +52,8 @@ pub fn write_starts(words: &[u32], positions: &mut [u32])
     requires { 3 * length positions.old ≤ length words.now }
     ensures positions { positions.new ≡ tabulate (start_in words.now) (length positions.old) }
 {
-    let mut w: usize = 0;
-    while w < positions.len() {
-        positions[w] = words[3 * w + 1];
-        w += 1;
+    for (w, position) in positions.iter_mut().enumerate() {
+        *position = start_in(words, w);
     }
 }
 
@@ -68,10 +66,9 @@ fn counted_as(kind: Kind) -> u64
     ensures answer { result ≡ counted_as kind }
 {
     match kind {
-        Kind::Send => 0,
+        Kind::Send | Kind::Rest => 0,
         Kind::Unlogged => 1,
         Kind::Logged => LOGGED_ONE,
-        Kind::Rest => 0,
     }
 }
 
@@ -80,10 +77,10 @@ fn counted_units(table: &[u32], role: usize, events: u32, unlogged: u64, logged:
     requires { (role < 4) × (events ≤ max_events) × (unlogged + logged ≤ events) × (table_refusal table.now ≡ 0) }
     ensures answer { result ≡ counted_units (table_of table.now) role events unlogged logged }
 {
-    let sends = events as u64 - (unlogged + logged);
-    sends * unit_table::units_for(table, role, Kind::Send) as u64
-        + unlogged * unit_table::units_for(table, role, Kind::Unlogged) as u64
-        + logged * unit_table::units_for(table, role, Kind::Logged) as u64
+    let sends = u64::from(events) - (unlogged + logged);
+    sends * u64::from(unit_table::units_for(table, role, Kind::Send))
+        + unlogged * u64::from(unit_table::units_for(table, role, Kind::Unlogged))
+        + logged * u64::from(unit_table::units_for(table, role, Kind::Logged))
 }
 
 // The units of the replayed events of worker w. One sum counts the receives of both kinds, whatever their order, and the table is read at
@@ -96,12 +93,9 @@ pub fn worker_units(log: &[u8], table: &[u32], words: &[u32], w: usize) -> u64
     let cut = cut_in(words, w);
     let start = start_in(words, w);
     let mut counts: u64 = 0;
-    let mut k = start;
-    while k < cut {
+    for k in start..cut {
         let e = event_log::event_at(log, w, k + 1);
-        let kind = e.kind;
-        counts += counted_as(kind);
-        k += 1;
+        counts += counted_as(e.kind);
     }
     counted_units(
         table,
@@ -119,13 +113,7 @@ pub fn units_of(log: &[u8], table: &[u32], words: &[u32]) -> u64
         (cuts_in (workers_of log.now) words.now) (starts_in (workers_of log.now) words.now) }
 {
     let n = event_log::worker_count(log);
-    let mut units: u64 = 0;
-    let mut w: usize = 0;
-    while w < n {
-        units += worker_units(log, table, words, w);
-        w += 1;
-    }
-    units
+    (0..n).map(|w| worker_units(log, table, words, w)).sum()
 }
 
 // The number of replayed events.
@@ -135,11 +123,5 @@ pub fn events_of(log: &[u8], words: &[u32]) -> u64
         (cuts_in (workers_of log.now) words.now) (starts_in (workers_of log.now) words.now) }
 {
     let n = event_log::worker_count(log);
-    let mut events: u64 = 0;
-    let mut w: usize = 0;
-    while w < n {
-        events += worker_events(words, w) as u64;
-        w += 1;
-    }
-    events
+    (0..n).map(|w| u64::from(worker_events(words, w))).sum()
 }

@@ -1,4 +1,3 @@
 pub mod Covering
 pub mod Calls
 pub mod Withdrawn
-pub mod Inner

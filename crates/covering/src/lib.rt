@@ -11,7 +11,6 @@ ghost use Rattle.causality.specs.Calls.{yes_unless};
 ghost use Rattle.choice.specs.Choice.{lost_at, worker_lost, is_startable};
 ghost use Rattle.covering.specs.Covering.{is_set, cut_of_all, without_set, set_starts, covering_set, CoversWhenStartable};
 ghost use Rattle.covering.specs.Withdrawn.{CoversNoneWithdrawn};
-ghost use Rattle.covering.specs.Inner.Looked.{first_set};
 
 use causality::Test;
 use choice::{loses_send, may_choose};
@@ -21,27 +20,7 @@ fn is_set(log: &[u8], identifier: u32, w: usize, c: u32) -> bool
     requires { log_refusal log.now ≡ 0 }
     ensures answer { result ≡ is_set (workers_of log.now) identifier w c }
 {
-    if !may_choose(log, w, c) {
-        return false;
-    }
-    let point = event_log::checkpoint_at(log, w, c);
-    point.identifier == identifier
-}
-
-// The number of worker w's checkpoint with this identifier, and the number after the last where there is none.
-fn set_number(log: &[u8], identifier: u32, w: usize) -> u32
-    requires { log_refusal log.now ≡ 0 }
-    ensures answer { result ≡ first_set (workers_of log.now) identifier w }
-{
-    let last = event_log::checkpoint_count(log, w);
-    let mut c: u32 = 0;
-    while c <= last {
-        if is_set(log, identifier, w, c) {
-            return c;
-        }
-        c += 1;
-    }
-    c
+    may_choose(log, w, c) && event_log::checkpoint_at(log, w, c).identifier == identifier
 }
 
 // Whether some worker has no checkpoint with this identifier. Where each has one, its index is in a word for each worker.
@@ -52,15 +31,12 @@ fn some_without_set(log: &[u8], identifier: u32, indices: &mut [u32]) -> bool
         ≡ set_starts (workers_of log.now) identifier ++ drop (worker_count (workers_of log.now)) indices.old }
 {
     let n = event_log::worker_count(log);
-    let mut w: usize = 0;
-    while w < n {
-        let c = set_number(log, identifier, w);
-        if event_log::checkpoint_count(log, w) < c {
+    for w in 0..n {
+        let end = event_log::checkpoint_count(log, w) + 1;
+        let Some(c) = (0..end).find(|c| is_set(log, identifier, w, *c)) else {
             return true;
-        }
-        let point = event_log::checkpoint_at(log, w, c);
-        indices[w] = point.index;
-        w += 1;
+        };
+        indices[w] = event_log::checkpoint_at(log, w, c).index;
     }
     false
 }
@@ -85,14 +61,7 @@ fn worker_lost(log: &[u8], starts: &[u32], w: usize) -> bool
     ensures answer { result ≡ worker_lost (workers_of log.now) (cut_of_all (workers_of log.now)) starts.now w }
 {
     let count = event_log::event_count(log, w);
-    let mut k: u32 = 0;
-    while k < count {
-        if is_lost(log, starts, w, k) {
-            return true;
-        }
-        k += 1;
-    }
-    false
+    (0..count).any(|k| is_lost(log, starts, w, k))
 }
 
 // Whether the starts are startable for the cut of all events.
@@ -101,14 +70,7 @@ fn is_startable(log: &[u8], starts: &[u32]) -> bool
     ensures answer { result ≡ is_startable (workers_of log.now) (cut_of_all (workers_of log.now)) starts.now }
 {
     let n = event_log::worker_count(log);
-    let mut w: usize = 0;
-    while w < n {
-        if worker_lost(log, starts, w) {
-            return false;
-        }
-        w += 1;
-    }
-    true
+    !(0..n).any(|w| worker_lost(log, starts, w))
 }
 
 // Whether the checkpoints with this identifier are a covering set.
@@ -116,11 +78,8 @@ fn is_covering(log: &[u8], identifier: u32) -> bool
     requires { log_refusal log.now ≡ 0 }
     ensures answer { result ≡ covering_set (workers_of log.now) identifier }
 {
-    let mut indices: [u32; event_log::MAX_WORKERS] = [0; event_log::MAX_WORKERS];
-    if some_without_set(log, identifier, &mut indices) {
-        return false;
-    }
-    is_startable(log, &indices)
+    let mut indices = [0u32; event_log::MAX_WORKERS];
+    !some_without_set(log, identifier, &mut indices) && is_startable(log, &indices)
 }
 
 // Whether the checkpoints with this identifier are a covering set; the identifier 0 means the initial states. `others` is the refusal of

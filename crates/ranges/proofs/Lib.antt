@@ -1,8 +1,10 @@
 pub mod Any
 pub mod Bools
 pub mod Chains
+pub mod Downward
 pub mod First
 pub mod Found
+pub mod FoundOrNone
 pub mod Join
 pub mod Keep
 pub mod Max

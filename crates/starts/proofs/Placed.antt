@@ -1,16 +1,16 @@
 -- The words after a worker is given a checkpoint, and the last checkpoint that may be chosen with an index below a bound.
 -- Assumes nothing.
-use mathlib.Core.Path.{◌≡◌, refl, ◌∙◌}
+use mathlib.Core.Path.{◌≡◌, ◌∙◌}
 use mathlib.Core.Logic.{◌≢◌, ⊎_elim}
-use mathlib.Core.Bool.{Bool, true, false, cond}
+use mathlib.Core.Bool.{true}
 use mathlib.Core.List.{List}
-use Prim.Native.Nat.{ℕ, ◌+◌, ◌-◌, ◌*◌, ◌<◌, ◌≤◌}
+use Prim.Native.Nat.{ℕ, ◌+◌, ◌*◌, ◌<◌, ◌≤◌}
 use native.Mathlib.Omega.{arith}
 use borrow.Author.Tests.{lt-ltb, ltb-true}
 use lib.Dec.{ltb}
 use lib.ListN.{length, set, length-set}
 use lib.Seq.{get_or-set_same, get_or-set_other}
-use Rattle.ranges.proofs.First.{last, last_none, last_more}
+use Rattle.ranges.proofs.First.{last}
 use Rattle.ranges.proofs.Order.{lt_or_le}
 use Rattle.ranges.proofs.Bools.{and_true_left, and_true_right}
 use Rattle.event_log.specs.Model.{Workers, checkpoint_of}
@@ -44,26 +44,6 @@ number_below_lem log w bound c some =
           (λ l. l)
           (lt_or_le (checkpoint_of log w d).index bound);
     })
-
--- the walk down to it: none left, found here, one down
-module _ (log : Workers) (w bound : ℕ) where
-  pub number_zero : number_below log w bound 0 ≡ 0
-  unfolding number_below
-  number_zero = rw (last_more (may_start_below log w bound) (λ d. d) 0, last_none (may_start_below log w bound) (λ d. d)) (go (may_start_below log w bound 0))
-    where
-      go : (b : Bool) → ◌≡◌ {A = ℕ} (cond b 0 0) 0
-      go true = refl
-      go false = refl
-
-  pub number_here : (c : ℕ) → may_start_below log w bound c ≡ true → number_below log w bound c ≡ c
-  unfolding number_below
-  number_here c h = rw (last_more (may_start_below log w bound) (λ d. d) c, h)
-
-  pub number_down : (c : ℕ) → 0 < c → may_start_below log w bound c ≡ false → number_below log w bound c ≡ number_below log w bound (c - 1)
-  unfolding number_below
-  number_down c some h =
-      let e : c - 1 + 1 ≡ c = omega arith in
-      rw (e, last_more (may_start_below log w bound) (λ d. d) c, h)
 
 module _ (log : Workers) (words : List ℕ) (w c : ℕ) where
   -- the words are as many as before, and every worker keeps its cut

@@ -7,12 +7,10 @@ use mathlib.Core.Bool.{Bool, true, false, cond}
 use mathlib.Core.List.{List}
 use Prim.Native.Nat.{ℕ, ◌+◌, ◌-◌, ◌*◌, ◌<◌, ◌≤◌}
 use native.Mathlib.Omega.{arith}
-use borrow.Author.Tests.{ltb-true, ltb-false}
 use lib.ListN.{length, set, length-set}
 use lib.Seq.{get_or-set_same, get_or-set_other, set-get_or, set-set}
-use Rattle.ranges.specs.Fold.{first_below, sum_below}
+use Rattle.ranges.specs.Fold.{sum_below}
 use Rattle.ranges.proofs.Order.{lt_or_le, at_or_other, climbing}
-use Rattle.ranges.proofs.First.{first}
 use Rattle.ranges.proofs.Sum.{sum_lt}
 use Rattle.ranges.proofs.Tabulate.{length_tabulate, get_d_tabulate_past}
 use Rattle.records.specs.declared.Event.{Event}
@@ -29,7 +27,7 @@ use Rattle.causality.specs.Cut.{IsCut}
 use Rattle.choice.specs.Choice.{may_choose, IsChoice, starts_of, Startable, loses_send}
 use Rattle.restore_plan.specs.Plan.{identifier_of, identifier_at}
 use Rattle.cost.specs.Words.{start_in, cuts_in, starts_in}
-use Rattle.starts.specs.Inner.Rollback.{number_in, number_below, placed, resent, pending, RollingBack, Looked, Settled}
+use Rattle.starts.specs.Inner.Rollback.{number_in, number_below, placed, resent, RollingBack, Looked, Settled}
 use Rattle.choice.proofs.Choosable.{may_recorded}
 use Rattle.choice.proofs.Startable.{starts_at, unlogged_receive, lost_send, keeps_send}
 use Rattle.restore_plan.proofs.Chosen.{IndexOffered, choice_starts, identifier_last}
@@ -254,18 +252,9 @@ pub looked_less : (log : Workers) (cut words looked words' looked' : List ℕ) �
 looked_less log cut words looked words' looked' so w here some done =
     sum_lt (at looked') (at looked) (worker_count log) (λ v h. so.looks v) w here (omega (arith, so.starts w))
 
--- the first worker with an event to look at has one
-pub first_pending : (words looked : List ℕ) (n w : ℕ) → w ≡ first_below (pending words looked) n → w < n → start_in words w < at looked w
-unfolding pending
-first_pending words looked n w e h = ltb-true _ _ (rw (← e) at ((first (pending words looked) n).found (rw e at h)))
-
 -- ---- nothing left
 module _ (log : Workers) (ok : WellFormed log) (cut : List ℕ) (is_cut : IsCut log cut) (words looked : List ℕ) (state : RollingBack log cut words looked)
-    (none : worker_count log ≤ first_below (pending words looked) (worker_count log)) where
-  all_looked : (w : ℕ) → w < worker_count log → at looked w ≤ start_in words w
-  unfolding pending
-  all_looked w h = ltb-false (start_in words w) (at looked w) ((first (pending words looked) (worker_count log)).before w (omega arith))
-
+    (all_looked : (w : ℕ) → w < worker_count log → at looked w ≤ start_in words w) where
   starts_past : (w : ℕ) → worker_count log ≤ w → at (starts_in log words) w ≡ 0
   unfolding starts_in
   starts_past w h = get_d_tabulate_past (start_in words) (worker_count log) w 0 h

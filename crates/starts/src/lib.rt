@@ -28,11 +28,7 @@ fn may_start_below(log: &[u8], w: usize, bound: u32, c: u32) -> bool
     requires { log_refusal log.now ≡ 0 }
     ensures answer { result ≡ may_start_below (workers_of log.now) w bound c }
 {
-    if !may_choose(log, w, c) {
-        return false;
-    }
-    let point = event_log::checkpoint_at(log, w, c);
-    point.index < bound
+    may_choose(log, w, c) && event_log::checkpoint_at(log, w, c).index < bound
 }
 
 // The last checkpoint of worker w, up to number `from`, that may be chosen and has an index below `bound`.
@@ -40,14 +36,10 @@ fn number_below(log: &[u8], w: usize, from: u32, bound: u32) -> u32
     requires { log_refusal log.now ≡ 0 }
     ensures answer { result ≡ number_below (workers_of log.now) w bound from }
 {
-    let mut c = from;
-    while c > 0 {
-        if may_start_below(log, w, bound, c) {
-            return c;
-        }
-        c -= 1;
-    }
-    0
+    (0..=from)
+        .rev()
+        .find(|c| may_start_below(log, w, bound, *c))
+        .unwrap_or(0)
 }
 
 // Gives worker w the checkpoint with number c.
@@ -67,14 +59,11 @@ fn begin(log: &[u8], words: &mut [u32], looked: &mut [u32])
     ensures begun { RollingBack (workers_of log.now) (cuts_in (workers_of log.now) words.old)
         words.new looked.new }
 {
-    let n = event_log::worker_count(log);
-    let mut w: usize = 0;
-    while w < n {
+    for (w, look) in looked.iter_mut().enumerate() {
         let cut = cut_in(words, w);
         let c = number_below(log, w, event_log::checkpoint_count(log, w), cut + 1);
         place(log, words, w, c);
-        looked[w] = cut;
-        w += 1;
+        *look = cut;
     }
 }
 
@@ -104,26 +93,12 @@ fn look_worker(log: &[u8], words: &mut [u32], looked: &mut [u32], w: usize)
 {
     let start = start_in(words, w);
     let mut x = looked[w];
+    // A while: where x ends is stored below.
     while start < x {
         resend(log, words, w, x);
         x -= 1;
     }
     looked[w] = x;
-}
-
-// The first worker with an event to look at, and n where there is none.
-fn next(words: &[u32], looked: &[u32], n: usize) -> usize
-    requires { (length words.now ≡ 3 * n) × (length looked.now ≡ n) }
-    ensures answer { result ≡ first_below (pending words.now looked.now) n }
-{
-    let mut w: usize = 0;
-    while w < n {
-        if start_in(words, w) < looked[w] {
-            return w;
-        }
-        w += 1;
-    }
-    w
 }
 
 // Looks at events until no worker has one left.
@@ -133,10 +108,8 @@ fn settle(log: &[u8], words: &mut [u32], looked: &mut [u32])
     ensures settled { Settled (workers_of log.now) (cuts_in (workers_of log.now) words.old) words.new }
 {
     let n = event_log::worker_count(log);
-    let mut w = next(words, looked, n);
-    while w < n {
+    while let Some(w) = (0..n).find(|w| start_in(words, *w) < looked[*w]) {
         look_worker(log, words, looked, w);
-        w = next(words, looked, n);
     }
 }
 
@@ -146,11 +119,9 @@ fn finish(log: &[u8], words: &mut [u32])
     ensures words { words.new ≡ finished (workers_of log.now) words.old }
 {
     let n = event_log::worker_count(log);
-    let mut w: usize = 0;
-    while w < n {
+    for w in 0..n {
         let point = event_log::checkpoint_at(log, w, number_in(words, w));
         words[3 * w + 2] = point.identifier;
-        w += 1;
     }
 }
 

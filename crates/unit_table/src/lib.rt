@@ -18,54 +18,29 @@ const LEAST: u32 = 1;
 const LARGEST: u32 = 1000;
 
 // The built-in table: a row for each role.
-const UNITS: [[u32; KINDS]; 4] = [[2, 3, 5], [2, 4, 6], [3, 8, 9], [2, 5, 7]];
+const UNITS: [u32; TABLE_WORDS] = [2, 3, 5, 2, 4, 6, 3, 8, 9, 2, 5, 7];
 
-// Writes the words of the built-in table. Word j is of role j / KINDS and column j % KINDS.
+// Writes the words of the built-in table.
 pub fn write_built_in(table: &mut [u32])
     requires { length table.old ≡ table_words }
     ensures table { table.new ≡ built_in_words }
     ensures loads { table_refusal table.new ≡ 0 }
 {
-    let mut j: usize = 0;
-    while j < TABLE_WORDS {
-        table[j] = UNITS[j / KINDS][j % KINDS];
-        j += 1;
-    }
-}
-
-// Whether a word is outside what a unit table may have.
-fn unit_fault(table: &[u32], k: usize) -> bool
-    requires { k < length table.now }
-    ensures answer { result ≡ unit_fault table.now k }
-{
-    if table[k] < LEAST {
-        return true;
-    }
-    LARGEST < table[k]
+    table.copy_from_slice(&UNITS);
 }
 
 // Whether some word is outside what a unit table may have.
 fn some_unit_fault(table: &[u32]) -> bool
     ensures answer { result ≡ any_below (unit_fault table.now) (length table.now) }
 {
-    let mut k: usize = 0;
-    while k < table.len() {
-        if unit_fault(table, k) {
-            return true;
-        }
-        k += 1;
-    }
-    false
+    table.iter().any(|word| *word < LEAST || LARGEST < *word)
 }
 
 // Refusal 27.
 pub fn table_refusal(table: &[u32]) -> u32
     ensures answer { result ≡ table_refusal table.now }
 {
-    if table.len() != TABLE_WORDS {
-        return 27;
-    }
-    if some_unit_fault(table) {
+    if table.len() != TABLE_WORDS || some_unit_fault(table) {
         return 27;
     }
     0

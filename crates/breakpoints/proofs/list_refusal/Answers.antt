@@ -15,7 +15,8 @@ returns-then-refusal-ne0 c = record { answer = rw (← c.accept-refusal.ensures.
 pub returns-then-length-ne0 : goal.returns-then-length-ne0
 returns-then-length-ne0 c =
     let tested = c.length_refusal-length.ensures.answer in
-    let accepted = sym c.accept-refusal.ensures.answer ∙ c.if-refusal-ne0.false in record { answer = tested ∙ sym (length_first _ _ accepted (λ e. c.if-length-ne0.true (tested ∙ e))) }
+    let accepted = sym c.accept-refusal.ensures.answer ∙ c.if-refusal-ne0.false in
+    record { answer = tested ∙ sym (length_first _ _ accepted (λ e. c.if-length-ne0.true (tested ∙ e))) }
 
 pub earliest_refusal-requires : goal.earliest_refusal-requires
 earliest_refusal-requires c = accepted_layout _ (sym c.accept-refusal.ensures.answer ∙ c.if-refusal-ne0.false)
@@ -23,4 +24,5 @@ earliest_refusal-requires c = accepted_layout _ (sym c.accept-refusal.ensures.an
 pub returns : goal.returns
 returns c =
     let tested = c.length_refusal-length.ensures.answer in
-    let accepted = sym c.accept-refusal.ensures.answer ∙ c.if-refusal-ne0.false in record { answer = c.earliest_refusal.ensures.answer ∙ sym (listed_then _ _ accepted (sym tested ∙ c.if-length-ne0.false)) }
+    let accepted = sym c.accept-refusal.ensures.answer ∙ c.if-refusal-ne0.false in
+    record { answer = c.earliest_refusal.ensures.answer ∙ sym (listed_then _ _ accepted (sym tested ∙ c.if-length-ne0.false)) }

@@ -1,37 +1,28 @@
--- `cost::events_of` meets its contract: after w turns `events` is the sum of cut minus start over the first w workers, and this fits 64
--- bits (`held_worker`). Assumes nothing.
-use mathlib.Core.Path.{sym}
-use native.Mathlib.Omega.{arith}
-use native.Mathlib.Nat.{le_antisymm}
-use Rattle.ranges.proofs.Sum.{sum_none}
-use Rattle.event_log.specs.Layout.{workers_of}
+-- `cost::events_of` meets its contract: `sum` adds cut minus start of each worker in turn (`sum_in_range`), and this fits 64 bits
+-- (`held_events_fit`). Assumes nothing.
+use Rattle.std.proofs.Common.{rules, ◌-◌, ◌∙◌}
+use Rattle.std.proofs.lemmas.Iterator.{serves_from_Range}
 use Rattle.accept.proofs.Accepted.{accepted_layout}
-use Rattle.cost.specs.Cost.{events_of}
-use Rattle.cost.proofs.Held.{HeldWorker, held_worker}
+use Rattle.cost.specs.Words.{cut_in, start_in}
+use Rattle.cost.proofs.Held.{held_worker, held_events, held_events_fit}
+use Rattle.cost.proofs.Sums.{fits_in_range, sum_in_range}
 use Rattle.cost.proofs.events_of.Goals as goal
 
 pub worker_count-n-requires : goal.worker_count-n-requires
 worker_count-n-requires c = accepted_layout _ c.requires.0
 
-pub loop-w-init : goal.loop-w-init
-loop-w-init c = (omega arith, sym (sum_none _))
+pub sum-requires-clause-can : goal.sum-requires-clause-can
+sum-requires-clause-can c =
+    (tt, serves_from_Range (λ x q k. search rules) (λ x l h. let is = held_worker _ _ c.requires x (search rules) in search (rules, is.wide, is.start)))
 
-pub worker_events-requires : goal.worker_events-requires
-worker_events-requires c =
-    let mine : HeldWorker (workers_of c.args.log.now) c.args.words.now c.loop-w.w = held_worker _ _ c.requires c.loop-w.w (rw c.worker_count-n.ensures.answer at c.loop-w-test.true) in
-    (mine.wide, mine.start)
-
-pub overflow_add-events : goal.overflow_add-events
-overflow_add-events c =
-    let mine : HeldWorker (workers_of c.args.log.now) c.args.words.now c.loop-w.w = held_worker _ _ c.requires c.loop-w.w (rw c.worker_count-n.ensures.answer at c.loop-w-test.true) in
-    let here = mine in
-    omega (arith, c.worker_events.ensures.answer, c.loop-w.invariant.1, here.events, here.events_fit)
-
-pub loop-w-preserved : goal.loop-w-preserved
-loop-w-preserved c =
-    let mine : HeldWorker (workers_of c.args.log.now) c.args.words.now c.loop-w.w = held_worker _ _ c.requires c.loop-w.w (rw c.worker_count-n.ensures.answer at c.loop-w-test.true) in
-    (omega arith, rw (mine.events, c.loop-w.invariant.1, c.worker_events.ensures.answer))
+pub sum-requires-clause-fits : goal.sum-requires-clause-fits
+sum-requires-clause-fits c =
+    fits_in_range (λ w. cut_in c.args.words.now w - start_in c.args.words.now w)
+    c.map.ensures.source c.map.ensures.closure c.worker_count-n.ensures.answer (λ x r q k. search rules) _ (held_events_fit _ _ c.requires)
 
 pub returns : goal.returns
-unfolding events_of
-returns c = record { answer = rw (le_antisymm c.loop-w.invariant.0 c.loop-w-test.false, c.worker_count-n.ensures.answer) at c.loop-w.invariant.1 }
+returns c = record {
+  answer = sum_in_range (λ w. cut_in c.args.words.now w - start_in c.args.words.now w)
+      c.map.ensures.source c.map.ensures.closure c.worker_count-n.ensures.answer (λ x r q k. search rules) _ c.sum.ensures.ran
+      ∙ held_events _ _ c.requires;
+}

@@ -10,18 +10,17 @@ use Rattle.covering.proofs.is_covering.Goals as goal
 pub some_without_set-requires : goal.some_without_set-requires
 some_without_set-requires c = (c.requires, (well_formed _ c.requires).few)
 
-pub returns-then-some_without_set : goal.returns-then-some_without_set
-unfolding covering_set
-returns-then-some_without_set c = record { answer = rw (← c.some_without_set.ensures.answer, c.if-some_without_set.true) }
-
 pub is_startable-requires : goal.is_startable-requires
-is_startable-requires c =
-    let given = c.requires in
-    (given, omega (arith, (well_formed _ given).few, c.some_without_set.auto.indices))
+is_startable-requires c = (c.requires, omega (arith, (well_formed _ c.requires).few, c.some_without_set.auto.indices))
 
-pub returns : goal.returns
+pub returns-then-not-some_without_set : goal.returns-then-not-some_without_set
 unfolding covering_set
-returns c =
-    let ok = well_formed _ c.requires in
+returns-then-not-some_without_set c =
     let found = c.some_without_set.ensures in
-    let each = c.if-some_without_set.false in record { answer = rw (← found.answer, each) (c.is_startable.ensures.answer ∙ rw (found.indices each) (startable_words _ ok _ _)) }
+    let each = c.if-not-some_without_set.true in
+    let words = c.is_startable.ensures.answer ∙ rw (found.indices each) (startable_words _ (well_formed _ c.requires) _ _) in
+    record { answer = rw (← found.answer, each) words }
+
+pub returns-else-not-some_without_set : goal.returns-else-not-some_without_set
+unfolding covering_set
+returns-else-not-some_without_set c = record { answer = rw (← c.some_without_set.ensures.answer, c.if-not-some_without_set.false) }

@@ -1,7 +1,6 @@
 use mathlib.Core.Path.{◌≡◌}
 use mathlib.Core.Bool.{false}
 use mathlib.Core.List.{◌++◌}
-use Prim.Native.Nat.{◌-◌, ◌≤◌}
 use lib.ListN.{drop}
 use Rattle.ranges.specs.Fold.{any_below, tabulate}
 use Rattle.event_log.specs.Layout.{workers_of}
@@ -10,8 +9,5 @@ use Rattle.covering.proofs.some_without_set.Given as goal
 
 abbrev pub invariant-loop-w : goal.invariant-loop-w
 invariant-loop-w l =
-    (l.w ≤ l.n) × (any_below (without_set (workers_of l.log) l.identifier) l.w ≡ false)
-    × (l.indices ≡ tabulate (set_index (workers_of l.log) l.identifier) l.w ++ drop l.w l.initial.indices)
-
-abbrev pub decreases-loop-w : goal.decreases-loop-w
-decreases-loop-w l = l.n - l.w
+    (any_below (without_set (workers_of l.log) l.identifier) l.w-counter ≡ false)
+    × (l.indices ≡ tabulate (set_index (workers_of l.log) l.identifier) l.w-counter ++ drop l.w-counter l.initial.indices)

@@ -1,20 +1,14 @@
--- `starts::number_below` meets its contract: the number sought up to `from` is the one sought up to c, since each number passed
--- may not be chosen or has no index below `bound`; at c = 0 it is 0 (`number_zero`). Assumes nothing.
-use mathlib.Core.Path.{◌≡◌, refl, sym, ◌∙◌}
-use native.Mathlib.Omega.{arith}
-use Rattle.starts.proofs.Placed.{number_zero, number_here, number_down}
+-- `starts::number_below` meets its contract: `find` asks the numbers from `from` down (`last_in_range`), and where none may be chosen with
+-- an index below `bound` it is 0. Assumes nothing.
+use Rattle.std.proofs.Common.{rules, ◌∙◌}
+use Rattle.ranges.proofs.Downward.{last_in_range}
+use Rattle.starts.specs.Inner.Rollback.{number_below}
 use Rattle.starts.proofs.number_below.Goals as goal
 
-pub loop-c-init : goal.loop-c-init
-loop-c-init c = refl
-
-pub returns-then-may_start_below : goal.returns-then-may_start_below
-returns-then-may_start_below c = record { answer = sym (c.loop-c.invariant ∙ number_here _ _ _ _ (sym c.may_start_below.ensures.answer ∙ c.if-may_start_below.true)) }
-
-pub loop-c-preserved : goal.loop-c-preserved
-loop-c-preserved c = c.loop-c.invariant
-    ∙ number_down _ _ _ _ c.loop-c-test.true (sym c.may_start_below.ensures.answer ∙ c.if-may_start_below.false)
-
 pub returns : goal.returns
-returns c =
-    let z : c.loop-c.c ≡ 0 = omega arith in record { answer = sym (c.loop-c.invariant ∙ rw z (number_zero _ _ _)) }
+unfolding number_below
+returns c = record {
+  answer = c.unwrap_or.ensures
+      ∙ last_in_range _ _ _ _ _ c.find.ensures.ran (λ x b q k. search rules)
+      c.rev.ensures.source c.new.ensures.start c.new.ensures.end c.new.ensures.exhausted;
+}

@@ -1,16 +1,11 @@
 -- `starts::place` meets its contract: the two stores put the index of checkpoint c in the worker's second word and the number c in
 -- its third. Assumes nothing.
-use native.Mathlib.Omega.{arith}
-use lib.ListN.{length-set}
 use Rattle.accept.proofs.Accepted.{accepted_layout}
 use Rattle.starts.specs.Inner.Rollback.{placed}
 use Rattle.starts.proofs.place.Goals as goal
 
 pub checkpoint_at-point-requires : goal.checkpoint_at-point-requires
 checkpoint_at-point-requires c = accepted_layout _ c.requires.0
-
-pub bounds-words-w-2 : goal.bounds-words-w-2
-bounds-words-w-2 c = simp length-set (omega arith)
 
 pub returns : goal.returns
 unfolding placed

@@ -1,2 +1,0 @@
--- What only the contracts of this crate's own functions cite.
-pub mod Looked
