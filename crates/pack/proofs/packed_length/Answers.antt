@@ -19,9 +19,6 @@ sections_size-at-requires c = (c.requires, rw c.worker_count-n.ensures.answer at
 pub overflow_add-at : goal.overflow_add-at
 overflow_add-at c = next_fits (limited _ c.requires) (rw c.worker_count-n.ensures.answer at c.loop-w-test.true) c.loop-w.invariant.1 c.sections_size-at.ensures.answer
 
-pub overflow_add-w : goal.overflow_add-w
-overflow_add-w c = omega (arith, c.worker_count-n.ensures.few)
-
 pub loop-w-preserved : goal.loop-w-preserved
 loop-w-preserved c = (omega arith, rw (c.loop-w.invariant.1, c.sections_size-at.ensures.answer) (sym (start_next _ _)))
 

@@ -33,9 +33,6 @@ pub overflow_add-start : goal.overflow_add-start
 overflow_add-start c = next_fits (limited _ c.requires.layout) (rw c.worker_count-n.ensures.answer at c.loop-w-test.true)
     c.loop-w.invariant.0 c.sections_size-start.ensures.answer
 
-pub overflow_add-w : goal.overflow_add-w
-overflow_add-w c = omega (arith, c.worker_count-n.ensures.few)
-
 pub loop-w-preserved : goal.loop-w-preserved
 unfolding entry_of numbers_of
 loop-w-preserved c =

@@ -23,9 +23,6 @@ copy_sections-at-requires c = (
   c.loop-w.invariant.0,
 )
 
-pub overflow_add-w : goal.overflow_add-w
-overflow_add-w c = omega (arith, c.worker_count-n.ensures.few)
-
 pub loop-w-preserved : goal.loop-w-preserved
 loop-w-preserved c =
     let within = header_within (workers_of c.args.log.now) in (
