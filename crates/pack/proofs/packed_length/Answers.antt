@@ -7,14 +7,8 @@ use Rattle.pack.specs.Packed.{packed_length}
 use Rattle.pack.proofs.Writing.{start_first, start_next, limited, next_fits}
 use Rattle.pack.proofs.packed_length.Goals as goal
 
-pub overflow_cast-n : goal.overflow_cast-n
-overflow_cast-n c = omega (arith, c.worker_count-n.ensures.few)
-
 pub loop-w-init : goal.loop-w-init
 loop-w-init c = (omega arith, c.header_of-at.ensures.answer ∙ rw c.worker_count-n.ensures.answer (sym (start_first _)))
-
-pub sections_size-at-requires : goal.sections_size-at-requires
-sections_size-at-requires c = (c.requires, rw c.worker_count-n.ensures.answer at c.loop-w-test.true)
 
 pub overflow_add-at : goal.overflow_add-at
 overflow_add-at c = next_fits (limited _ c.requires) (rw c.worker_count-n.ensures.answer at c.loop-w-test.true) c.loop-w.invariant.1 c.sections_size-at.ensures.answer
