@@ -1,5 +1,6 @@
 -- `pack::packed_length` meets its contract: before turn w `at` is where the sections of worker w begin: where the header ends for worker 0,
 -- and one worker's sections further after each turn. Assumes nothing.
+use Rattle.std.proofs.lemmas.Grind.{common_steps}
 use mathlib.Core.Path.{◌≡◌, sym, ◌∙◌}
 use native.Mathlib.Omega.{arith}
 use native.Mathlib.Nat.{le_antisymm}
@@ -18,5 +19,4 @@ loop-w-preserved c = (omega arith, rw (c.loop-w.invariant.1, c.sections_size-at.
 
 pub returns : goal.returns
 unfolding packed_length
-returns c =
-    let all : c.loop-w.w ≡ c.worker_count-n.result = le_antisymm c.loop-w.invariant.0 c.loop-w-test.false in record { answer = c.loop-w.invariant.1 ∙ rw (all, c.worker_count-n.ensures.answer) }
+returns c = grind (arith, common_steps)

