@@ -37,10 +37,8 @@ fn packed_length(log: &[u8]) -> usize
 {
     let n = event_log::worker_count(log);
     let mut at = event_log::header_of(n as u32);
-    let mut w: usize = 0;
-    while w < n {
+    for w in 0..n {
         at += sections_size(log, w);
-        w += 1;
     }
     at
 }
@@ -84,10 +82,8 @@ fn write_numbers(numbers: [u32; 5], out: &mut [u8], at: usize)
     requires { at + 20 ≤ length out.old }
     ensures out { out.new ≡ overwrite at (join_below (number_at numbers) 5) out.old }
 {
-    let mut j: usize = 0;
-    while j < 5 {
-        bytes_le::write4(out, at + 4 * j, numbers[j]);
-        j += 1;
+    for (j, number) in numbers.iter().enumerate() {
+        bytes_le::write4(out, at + 4 * j, *number);
     }
 }
 
@@ -108,8 +104,7 @@ fn write_entries(log: &[u8], out: &mut [u8])
 {
     let n = event_log::worker_count(log);
     let mut start = event_log::header_of(n as u32);
-    let mut w: usize = 0;
-    while w < n {
+    for w in 0..n {
         let events = event_log::event_count(log, w);
         let checkpoints = event_log::checkpoint_count(log, w);
         write_entry(
@@ -121,7 +116,6 @@ fn write_entries(log: &[u8], out: &mut [u8])
             out,
         );
         start += sections_size(log, w);
-        w += 1;
     }
 }
 
@@ -147,10 +141,8 @@ fn write_sections(log: &[u8], out: &mut [u8])
 {
     let n = event_log::worker_count(log);
     let mut at = event_log::header_of(n as u32);
-    let mut w: usize = 0;
-    while w < n {
+    for w in 0..n {
         at = copy_sections(log, w, out, at);
-        w += 1;
     }
 }
 

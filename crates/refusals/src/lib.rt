@@ -24,10 +24,7 @@ fn event_refusal(log: &[u8], w: usize, event: u32) -> u32
     requires { layout_refusal log.now ≡ 0 }
     ensures answer { result ≡ event_refusal (workers_of log.now) w event }
 {
-    if event == 0 {
-        return 13;
-    }
-    if event_log::event_count(log, w) < event {
+    if event == 0 || event_log::event_count(log, w) < event {
         return 13;
     }
     0

@@ -24,13 +24,9 @@ fn is_disordered(log: &[u8], words: &[u32], positions: &[u32], w: usize) -> bool
         × (worker_count (workers_of log.now) ≤ length positions.now) }
     ensures answer { result ≡ disordered (workers_of log.now) words.now positions.now w }
 {
-    if positions[w] < start_in(words, w) {
-        return true;
-    }
-    if cut_in(words, w) < positions[w] {
-        return true;
-    }
-    event_log::event_count(log, w) < cut_in(words, w)
+    positions[w] < start_in(words, w)
+        || cut_in(words, w) < positions[w]
+        || event_log::event_count(log, w) < cut_in(words, w)
 }
 
 // Whether some worker is without start <= position <= cut <= count.
@@ -39,14 +35,7 @@ fn some_disordered(log: &[u8], words: &[u32], positions: &[u32]) -> bool
     ensures answer { result ≡ any_below (disordered (workers_of log.now) words.now positions.now) (worker_count (workers_of log.now)) }
 {
     let n = event_log::worker_count(log);
-    let mut w: usize = 0;
-    while w < n {
-        if is_disordered(log, words, positions, w) {
-            return true;
-        }
-        w += 1;
-    }
-    false
+    (0..n).any(|w| is_disordered(log, words, positions, w))
 }
 
 // Refusals 14 and 16 of a step or a list of steps; `others` is the refusal of what else is lent.

@@ -32,10 +32,9 @@ fn advance_each(
         ++ drop (length workers.now) answers.old }
     ensures positions { positions.new ≡ machine_after (workers_of log.now) words.now positions.old workers.now }
 {
-    let mut j: usize = 0;
-    while j < workers.len() {
-        answers[j] = crate::advance(log, words, positions, workers[j] as usize);
-        j += 1;
+    // By index: of words lent out by a zip over iter_mut a proof knows nothing afterwards.
+    for (j, worker) in workers.iter().enumerate() {
+        answers[j] = crate::advance(log, words, positions, *worker as usize);
     }
 }
 

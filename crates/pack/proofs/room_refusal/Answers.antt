@@ -1,5 +1,6 @@
 -- `pack::room_refusal` meets its contract: a length over that of the longest log gives 26, else one over the bytes lent gives 25: the two
--- tests of `room_refusal` in its order. The branches' facts are found by `omega`. Assumes nothing.
+-- tests of `room_refusal` in its order. Assumes nothing.
+use Rattle.std.proofs.lemmas.Grind.{common_steps}
 use native.Mathlib.Omega.{arith}
 use borrow.Author.Tests.{lt-ltb, le-ltb}
 use Rattle.event_log.specs.Limits.{max_length}
@@ -8,16 +9,12 @@ use Rattle.pack.proofs.room_refusal.Goals as goal
 
 pub returns-then-size-gt-MAX_LENGTH : goal.returns-then-size-gt-MAX_LENGTH
 unfolding room_refusal
-returns-then-size-gt-MAX_LENGTH c = record { answer = rw (lt-ltb max_length c.args.size (omega arith)) }
+returns-then-size-gt-MAX_LENGTH c = grind (arith, common_steps)
 
 pub returns-then-lent-size : goal.returns-then-lent-size
 unfolding room_refusal
-returns-then-lent-size c = record {
-  answer = rw (le-ltb max_length c.args.size (omega arith), lt-ltb c.args.lent c.args.size (omega arith));
-}
+returns-then-lent-size c = grind (arith, common_steps)
 
 pub returns : goal.returns
 unfolding room_refusal
-returns c = record {
-  answer = rw (le-ltb max_length c.args.size (omega arith), le-ltb c.args.lent c.args.size (omega arith));
-}
+returns c = grind (arith, common_steps)

@@ -8,12 +8,6 @@ use Rattle.pack.proofs.Header.{entries_long}
 use Rattle.pack.proofs.Writing.{written_none, written_more, written_end, start_first, start_next, limited, next_fits, header_within, entry_within}
 use Rattle.pack.proofs.write_entries.Goals as goal
 
-pub worker_count-n-requires : goal.worker_count-n-requires
-worker_count-n-requires c = c.requires.layout
-
-pub overflow_cast-n : goal.overflow_cast-n
-overflow_cast-n c = omega (arith, c.worker_count-n.ensures.few)
-
 pub loop-w-init : goal.loop-w-init
 loop-w-init c = (c.header_of-start.ensures.answer ∙ rw c.worker_count-n.ensures.answer (sym (start_first _)), written_none)
 
@@ -26,15 +20,9 @@ write_entry-requires c =
       rw (c.loop-w.invariant.0, c.event_count-events.ensures.answer) (omega (arith, c.requires.fits, within.1)),
     )
 
-pub sections_size-start-requires : goal.sections_size-start-requires
-sections_size-start-requires c = (c.requires.layout, rw c.worker_count-n.ensures.answer at c.loop-w-test.true)
-
 pub overflow_add-start : goal.overflow_add-start
 overflow_add-start c = next_fits (limited _ c.requires.layout) (rw c.worker_count-n.ensures.answer at c.loop-w-test.true)
     c.loop-w.invariant.0 c.sections_size-start.ensures.answer
-
-pub overflow_add-w : goal.overflow_add-w
-overflow_add-w c = omega (arith, c.worker_count-n.ensures.few)
 
 pub loop-w-preserved : goal.loop-w-preserved
 unfolding entry_of numbers_of
@@ -46,9 +34,3 @@ loop-w-preserved c =
       rw (c.loop-w.invariant.0, c.sections_size-start.ensures.answer) (sym (start_next _ _)),
       written_more c.loop-w.invariant.1 c.loop-w-test.true (omega (arith, c.requires.enough)) (omega arith) wrote c.out-1.given,
     )
-
-pub shape_of-out : goal.shape_of-out
-shape_of-out c = c.loop-w.invariant.1.long
-
-pub returns : goal.returns
-returns c = record { out = written_end c.loop-w.invariant.1 c.loop-w-test.false c.worker_count-n.ensures.answer }

@@ -10,21 +10,9 @@ use Rattle.pack.proofs.write_numbers.Goals as goal
 pub loop-j-init : goal.loop-j-init
 loop-j-init c = written_none
 
-pub overflow_add-at : goal.overflow_add-at
-overflow_add-at c = omega (arith, c.requires)
-
-pub write4-requires : goal.write4-requires
-write4-requires c = omega (arith, c.requires, c.loop-j.invariant.long)
-
 pub loop-j-preserved : goal.loop-j-preserved
 unfolding number_at
 loop-j-preserved c =
     let long = numbers_long c.args.numbers c.loop-j.j in
     written_more c.loop-j.invariant c.loop-j-test.true (omega (arith, c.requires)) (omega arith)
     c.write4.ensures.bytes c.out-1.given
-
-pub shape_of-out : goal.shape_of-out
-shape_of-out c = c.loop-j.invariant.long
-
-pub returns : goal.returns
-returns c = record { out = written_end c.loop-j.invariant c.loop-j-test.false refl }

@@ -7,24 +7,8 @@ use Rattle.pack.proofs.Header.{sections_before}
 use Rattle.pack.proofs.Writing.{written_none, written_more, written_end, room_same, start_first, header_within}
 use Rattle.pack.proofs.write_sections.Goals as goal
 
-pub worker_count-n-requires : goal.worker_count-n-requires
-worker_count-n-requires c = c.requires.layout
-
-pub overflow_cast-n : goal.overflow_cast-n
-overflow_cast-n c = omega (arith, c.worker_count-n.ensures.few)
-
 pub loop-w-init : goal.loop-w-init
 loop-w-init c = (c.header_of-at.ensures.answer ∙ rw c.worker_count-n.ensures.answer (sym (start_first _)), written_none)
-
-pub copy_sections-at-requires : goal.copy_sections-at-requires
-copy_sections-at-requires c = (
-  room_same c.requires c.loop-w.invariant.1.long,
-  rw c.worker_count-n.ensures.answer at c.loop-w-test.true,
-  c.loop-w.invariant.0,
-)
-
-pub overflow_add-w : goal.overflow_add-w
-overflow_add-w c = omega (arith, c.worker_count-n.ensures.few)
 
 pub loop-w-preserved : goal.loop-w-preserved
 loop-w-preserved c =
@@ -34,9 +18,3 @@ loop-w-preserved c =
           (c.loop-w.invariant.0 ∙ sections_before _ c.loop-w.w)
           c.copy_sections-at.ensures.out c.out-1.given,
     )
-
-pub shape_of-out : goal.shape_of-out
-shape_of-out c = c.loop-w.invariant.1.long
-
-pub returns : goal.returns
-returns c = record { out = written_end c.loop-w.invariant.1 c.loop-w-test.false c.worker_count-n.ensures.answer }

@@ -1,5 +1,7 @@
 -- `refusals::line_refusal` meets its contract: the number of `breakpoint_refusal` is returned where it is not 0; where it is 0 the log is
 -- accepted (`breakpoint_ok`), and `or_else` gives 14 for `each` × n words before `others`. Assumes nothing.
+use Rattle.std.proofs.Common.{arith}
+use Rattle.std.proofs.lemmas.Grind.{common_steps}
 use borrow.Author.Tests.{eq-eqb, ne_eqb}
 use Rattle.lent.specs.Lent.{or_else}
 use Rattle.accept.proofs.Accepted.{accepted_layout}
@@ -10,22 +12,11 @@ use Rattle.refusals.proofs.line_refusal.Goals as goal
 
 pub returns-then-refusal-ne0 : goal.returns-then-refusal-ne0
 unfolding line_refusal or_else
-returns-then-refusal-ne0 c = record { answer = rw (← c.breakpoint_refusal-refusal.ensures.answer, ne_eqb _ _ c.if-refusal-ne0.true) }
+returns-then-refusal-ne0 c = grind (arith, common_steps)
 
 pub worker_count-requires : goal.worker_count-requires
 worker_count-requires c = accepted_layout _ (breakpoint_ok c.breakpoint_refusal-refusal.ensures.answer c.if-refusal-ne0.false).accepted
 
-pub overflow_mul-needed : goal.overflow_mul-needed
-overflow_mul-needed c = each_fits _ _ (search rules) c.worker_count.ensures.few
-
 pub returns : goal.returns
 unfolding line_refusal or_else
-returns c = record {
-  answer = rw (
-    ← c.breakpoint_refusal-refusal.ensures.answer,
-    eq-eqb _ _ c.if-refusal-ne0.false,
-    ← c.worker_count.ensures.answer,
-    ← c.words_refusal.ensures.answer,
-  )
-      c.or_else.ensures.answer;
-}
+returns c = grind (arith, common_steps)

