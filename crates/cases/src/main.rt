@@ -33,7 +33,7 @@ fn read_full<R: Read>(file: &mut R, buffer: &mut [u8]) -> io::Result<usize>
 fn read_number<R: Read>(file: &mut R) -> io::Result<u32> {
     let mut bytes = [0u8; 4];
     read_full(file, &mut bytes)?;
-    Ok(bytes_le::read4(&bytes, 0))
+    Ok(bytes_le::read::<4>(&bytes, 0))
 }
 
 // The entries of a case, each the place of a number and its value. At a place below ENTRIES it is a call or a new line.

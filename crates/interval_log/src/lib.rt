@@ -28,11 +28,11 @@ fn write_receive(e: Event, number: IntervalNumber, out: &mut [u8], at: usize)
     ensures out { out.new ≡ overwrite at (event_bytes (naming e number)) out.old }
 {
     let kind = e.kind;
-    bytes_le::write1(out, at, records::kind_number(kind));
-    bytes_le::write1(out, at + 1, e.peer);
-    bytes_le::write2(out, at + 2, e.spare);
-    bytes_le::write4(out, at + 4, number.0);
-    bytes_le::write4(out, at + 8, e.stamp);
+    bytes_le::write::<1>(out, at, u32::from(records::kind_number(kind)));
+    bytes_le::write::<1>(out, at + 1, u32::from(e.peer));
+    bytes_le::write::<2>(out, at + 2, e.spare);
+    bytes_le::write::<4>(out, at + 4, number.0);
+    bytes_le::write::<4>(out, at + 8, e.stamp);
 }
 
 // Writes a checkpoint that is not withdrawn to 8 bytes, from place `at` on.
@@ -40,8 +40,8 @@ fn write_checkpoint(number: IntervalNumber, identifier: u32, out: &mut [u8], at:
     requires { at + 8 ≤ length out.old }
     ensures out { out.new ≡ overwrite at (bytes_of 4 number.0 ++ bytes_of 4 identifier) out.old }
 {
-    bytes_le::write4(out, at, number.0);
-    bytes_le::write4(out, at + 4, identifier);
+    bytes_le::write::<4>(out, at, number.0);
+    bytes_le::write::<4>(out, at + 4, identifier);
 }
 
 // The interval that a receive names: that of its sender before the send.

@@ -2,4 +2,3 @@ pub mod Lent
 pub mod Overwrite
 pub mod Left
 pub mod FirstOf
-pub mod Clearing

@@ -1,7 +1,7 @@
 // Words and bytes that a caller lends: how many there are, and what is put into them.
 #![tactic(auto)]
 
-ghost use Rattle.std.specs.Prelude.{◌≡◌, ◌+◌, ◌≤◌, length, replicate};
+ghost use Rattle.std.specs.Prelude.{◌≡◌, ◌+◌, ◌≤◌, length};
 ghost use Rattle.lent.specs.Lent.{or_else, words_refusal, short_scratch};
 ghost use Rattle.lent.specs.Inner.Overwrite.{overwrite};
 
@@ -33,40 +33,6 @@ pub fn short_scratch(scratch: usize, needed: usize) -> u32
         return 15;
     }
     0
-}
-
-// Sets every word to 0.
-pub fn clear(words: &mut [u32])
-    ensures words { words.new ≡ replicate (length words.old) 0 }
-{
-    let mut w: usize = 0;
-    while w < words.len() {
-        words[w] = 0;
-        w += 1;
-    }
-}
-
-// Sets every 64-bit word to 0.
-pub fn clear_wide(words: &mut [u64])
-    ensures words { words.new ≡ replicate (length words.old) 0 }
-{
-    let mut w: usize = 0;
-    while w < words.len() {
-        words[w] = 0;
-        w += 1;
-    }
-}
-
-// Copies words into as many.
-pub fn copy(from: &[u32], to: &mut [u32])
-    requires { length to.old ≡ length from.now }
-    ensures words { to.new ≡ from.now }
-{
-    let mut w: usize = 0;
-    while w < to.len() {
-        to[w] = from[w];
-        w += 1;
-    }
 }
 
 // Copies bytes to those from place `at` on.

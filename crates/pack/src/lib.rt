@@ -72,9 +72,9 @@ pub fn write_fields(form: u32, n: usize, size: usize, out: &mut [u8])
     requires { (8 ≤ length out.old) × (n ≤ max_workers) × (size ≤ max_length) }
     ensures out { out.new ≡ overwrite 0 (field_bytes form n size) out.old }
 {
-    bytes_le::write2(out, 0, form);
-    bytes_le::write2(out, 2, n as u32);
-    bytes_le::write4(out, 4, size as u32);
+    bytes_le::write::<2>(out, 0, form);
+    bytes_le::write::<2>(out, 2, n as u32);
+    bytes_le::write::<4>(out, 4, size as u32);
 }
 
 // Writes five numbers to 4 bytes each, from place `at` on.
@@ -83,7 +83,7 @@ fn write_numbers(numbers: [u32; 5], out: &mut [u8], at: usize)
     ensures out { out.new ≡ overwrite at (join_below (number_at numbers) 5) out.old }
 {
     for (j, number) in numbers.iter().enumerate() {
-        bytes_le::write4(out, at + 4 * j, *number);
+        bytes_le::write::<4>(out, at + 4 * j, *number);
     }
 }
 

@@ -283,7 +283,7 @@ pub fn write_text(input: &[u8], out: &mut [u8]) -> usize
     put_plan(
         out,
         &input[8..],
-        bytes_le::read4(input, 0),
-        bytes_le::read4(input, 4),
+        bytes_le::read::<4>(input, 0),
+        bytes_le::read::<4>(input, 4),
     )
 }

@@ -1,11 +1,2 @@
-// Folds over a range of numbers: the definitions are in specs/, their laws in proofs/.
+// Folds over a range of numbers: definitions and laws alone.
 #![tactic(auto)]
-
-ghost use Rattle.std.specs.Prelude.{◌≡◌, max};
-
-// The larger of two numbers.
-pub fn larger(a: u32, b: u32) -> u32
-    ensures answer { result ≡ max a b }
-{
-    if a < b { b } else { a }
-}

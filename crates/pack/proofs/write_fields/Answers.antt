@@ -6,6 +6,6 @@ use Rattle.pack.proofs.write_fields.Goals as goal
 
 pub returns : goal.returns
 returns c = record {
-  out = c.write4.ensures.bytes
-      ∙ rw (c.write2-2.ensures.bytes, c.write2.ensures.bytes) (fields_written c.args.form c.args.n c.args.size c.args.out.now);
+  out = c.write-3.ensures.bytes
+      ∙ rw (c.write-2.ensures.bytes, c.write.ensures.bytes) (fields_written c.args.form c.args.n c.args.size c.args.out.now);
 }

@@ -15,4 +15,4 @@ unfolding number_at
 loop-j-preserved c =
     let long = numbers_long c.args.numbers c.loop-j.j in
     written_more c.loop-j.invariant c.loop-j-test.true (omega (arith, c.requires)) (omega arith)
-    c.write4.ensures.bytes c.out-1.given
+    c.write.ensures.bytes c.out-1.given
