@@ -111,7 +111,11 @@ fn has_mark(form: u32, word: u32) -> bool
 fn without_mark(form: u32, word: u32) -> u32
     ensures answer { result ≡ without_mark form word }
 {
-    if marks_withdrawn(form) { word % MARK } else { word }
+    if marks_withdrawn(form) {
+        word % MARK
+    } else {
+        word
+    }
 }
 
 // Record k, from 0, of a section of checkpoints of a log of this form.

@@ -20,8 +20,8 @@ pub returns-then-refusal-ne0 : goal.returns-then-refusal-ne0
 returns-then-refusal-ne0 c =
     let number = listed_by _ _ c.loop-k.k c.worker_of.ensures.answer c.event_of.ensures.answer c.event_in_refusal-refusal.ensures.answer in
     let decides =
-        earliest_decides _ _ _ (rw c.count-all.ensures.answer at c.loop-k-test.true) (first_of_zero _ _ c.loop-k.invariant)
-        (λ e. c.if-refusal-ne0.true (number ∙ e)) in
+    earliest_decides _ _ _ (rw c.count-all.ensures.answer at c.loop-k-test.true) (first_of_zero _ _ c.loop-k.invariant)
+    (λ e. c.if-refusal-ne0.true (number ∙ e)) in
     record { answer = number ∙ sym decides }
 
 pub loop-k-preserved : goal.loop-k-preserved
