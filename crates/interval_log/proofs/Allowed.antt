@@ -1,5 +1,5 @@
 -- What a conversion that is not refused may use of what it was lent. Assumes nothing.
-use mathlib.Core.Path.{◌≡◌, sym, ◌∙◌}
+use mathlib.Core.Path.{◌≡◌, sym, ◌∙◌, ap}
 use mathlib.Core.Bool.{cond}
 use mathlib.Core.List.{List}
 use Prim.Native.Nat.{ℕ, ◌≤◌}
@@ -7,9 +7,11 @@ use Rattle.lent.proofs.Lent.{or_else_zero}
 use Rattle.event_log.specs.Limits.{max_length}
 use Rattle.event_log.specs.Layout.{workers_of}
 use Rattle.accept.specs.Refusal.{log_refusal, given}
+use Rattle.event_log.specs.Model.{Workers}
+use Rattle.pack.specs.declared.Packed.{Packed}
 use Rattle.pack.specs.Packed.{packed_length}
-use Rattle.pack.specs.Calls.{room_refusal}
-use Rattle.pack.proofs.Allowed.{room_ok}
+use Rattle.pack.specs.Calls.{room_refusal, pack_answer}
+use Rattle.pack.proofs.Allowed.{room_ok, answer_written}
 use Rattle.intervals.specs.Interval.{interval_workers}
 use Rattle.interval_refusals.specs.Calls.{crowded, intervals_refusal}
 
@@ -27,3 +29,8 @@ intervals_ok {s} {lent} {others} found none =
     let behind = or_else_zero (room_refusal (packed_length (interval_workers (workers_of s))) lent) others apart.1 in
     let room = room_ok (packed_length (interval_workers (workers_of s))) lent behind.0 in
     record { accepted = parts.0; fits = room.0; enough = room.1; rest = behind.1 }
+
+-- .. and the length that was judged is that of the interval log
+pub judged_long : (log : Workers) {judged : Packed} → judged ≡ pack_answer judged.refusal (interval_workers log) → judged.refusal ≡ 0
+    → judged.written ≡ packed_length (interval_workers log)
+judged_long log answer none = ap (λ (r : Packed). r.written) answer ∙ answer_written _ _ none

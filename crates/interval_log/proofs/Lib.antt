@@ -1,3 +1,4 @@
 pub mod Allowed
-pub mod Staying
 pub mod Pieces
+pub mod Staying
+pub mod Kept

@@ -1,5 +1,5 @@
 // The interval log of an accepted log, written as a packed log is.
-#![tactic(auto)]
+#![tactic(auto, using(accept::proofs::Accepted::accepted_layout))]
 
 ghost use Rattle.std.specs.Prelude.{◌≡◌, ◌+◌, ◌-◌, ◌*◌, ◌≤◌, ◌++◌, length, take};
 ghost use Rattle.ranges.specs.Fold.{join_below};
@@ -27,8 +27,7 @@ fn write_receive(e: Event, number: IntervalNumber, out: &mut [u8], at: usize)
     requires { at + 12 ≤ length out.old }
     ensures out { out.new ≡ overwrite at (event_bytes (naming e number)) out.old }
 {
-    let kind = e.kind;
-    bytes_le::write::<1>(out, at, u32::from(records::kind_number(kind)));
+    bytes_le::write::<1>(out, at, u32::from(records::kind_number(e.kind)));
     bytes_le::write::<1>(out, at + 1, u32::from(e.peer));
     bytes_le::write::<2>(out, at + 2, e.spare);
     bytes_le::write::<4>(out, at + 4, number.0);
@@ -71,10 +70,8 @@ fn write_events(
     let start = event_log::event_start(log, w);
     let events = event_log::event_count(log, w) as usize;
     let mut place = at;
-    let mut k: usize = 0;
-    while k < events {
+    for k in 0..events {
         let e = event_log::event_in(log, start, events, k);
-        k += 1;
         if !records::is_receive(e) {
             continue;
         }
@@ -102,10 +99,8 @@ fn write_checkpoints(
 {
     let count = event_log::checkpoint_count(log, w);
     let mut place = at;
-    let mut k: u32 = 0;
-    while k < count {
-        k += 1;
-        let checkpoint = event_log::checkpoint_at(log, w, k);
+    for k in 0..count {
+        let checkpoint = event_log::checkpoint_at(log, w, k + 1);
         if checkpoint.withdrawn {
             continue;
         }
@@ -136,6 +131,7 @@ fn write_worker(
 }
 
 // Writes the sections of each worker.
+#[tactic(auto, using(crate::proofs::Kept::entry_laws))]
 fn write_sections(log: &[u8], b: u32, firsts: &[u32], table: &[u16], out: &mut [u8])
     requires { Tabled log.now b firsts.now table.now × (packed_length (interval_workers (workers_of log.now)) ≤ length out.old) }
     ensures out { out.new ≡ overwrite (header_of (worker_count (workers_of log.now)))
@@ -143,14 +139,13 @@ fn write_sections(log: &[u8], b: u32, firsts: &[u32], table: &[u16], out: &mut [
 {
     let n = event_log::worker_count(log);
     let mut at = event_log::header_of(n as u32);
-    let mut w: usize = 0;
-    while w < n {
+    for w in 0..n {
         at = write_worker(log, b, firsts, table, w, out, at);
-        w += 1;
     }
 }
 
 // Writes the entry of each worker.
+#[tactic(auto, using(crate::proofs::Kept::entry_laws), unfolding(pack::specs::Packed::sections_size, pack::specs::Packed::entry_of, pack::specs::Packed::numbers_of))]
 fn write_entries(log: &[u8], b: u32, firsts: &[u32], table: &[u16], out: &mut [u8])
     requires { Tabled log.now b firsts.now table.now × (packed_length (interval_workers (workers_of log.now)) ≤ max_length)
         × (packed_length (interval_workers (workers_of log.now)) ≤ length out.old) }
@@ -159,15 +154,13 @@ fn write_entries(log: &[u8], b: u32, firsts: &[u32], table: &[u16], out: &mut [u
 {
     let n = event_log::worker_count(log);
     let mut start = event_log::header_of(n as u32);
-    let mut w: usize = 0;
-    while w < n {
+    for w in 0..n {
         let last = EventIndex(event_log::event_count(log, w));
         let receives = interval_blocks::interval_of(log, b, firsts, table, w, last);
         let kept = interval_refusals::kept_count(log, w);
         pack::write_entry(w, start, receives.0, kept, event_log::role_of(log, w), out);
         start += records::EVENT_SIZE * (receives.0 as usize)
             + records::CHECKPOINT_SIZE * (kept as usize);
-        w += 1;
     }
 }
 
@@ -187,17 +180,16 @@ fn write_with(log: &[u8], b: u32, size: usize, out: &mut [u8])
     write_sections(log, b, &firsts, &table, out);
 }
 
-// Writes the interval log, whose length is `size`, with the smallest blocks, from 2^b events on, that the table has places for. It is not
-// made a part of its caller: so the table does not lie in the frames of the tests of the log.
+// Writes the interval log, whose length is `size`, with the smallest blocks that the table has places for. It is not made a part of its
+// caller: so the table does not lie in the frames of the tests of the log.
 #[inline(never)]
-fn write_from(log: &[u8], b: u32, size: usize, out: &mut [u8])
-    requires { Space log.now size (length out.old) × (b ≤ most_bits) }
+fn write_packed(log: &[u8], size: usize, out: &mut [u8])
+    requires { Space log.now size (length out.old) }
     ensures out { out.new ≡ onto (packed (interval_log (workers_of log.now))) out.old }
 {
-    if PLACES < interval_blocks::all_blocks(log, b) {
-        write_from(log, b + 1, size, out);
-        return;
-    }
+    let b = (0..interval_blocks::MOST_BITS)
+        .find(|&b| interval_blocks::all_blocks(log, b) <= PLACES)
+        .unwrap_or(interval_blocks::MOST_BITS);
     write_with(log, b, size, out);
 }
 
@@ -212,6 +204,6 @@ pub fn intervals(log: &[u8], others: u32, out: &mut [u8]) -> Packed
     if judged.refusal != 0 {
         return judged;
     }
-    write_from(log, 0, judged.written as usize, out);
+    write_packed(log, judged.written as usize, out);
     judged
 }

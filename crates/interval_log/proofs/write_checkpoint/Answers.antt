@@ -7,6 +7,6 @@ use Rattle.interval_log.proofs.write_checkpoint.Goals as goal
 
 pub returns : goal.returns
 returns c = record {
-  out = c.write4-2.ensures.bytes
-      ∙ rw c.write4.ensures.bytes (checkpoint_written c.args.number.0 c.args.identifier c.args.at c.args.out.now (omega (arith, c.requires)));
+  out = c.write-2.ensures.bytes
+      ∙ rw c.write.ensures.bytes (checkpoint_written c.args.number.0 c.args.identifier c.args.at c.args.out.now (omega (arith, c.requires)));
 }

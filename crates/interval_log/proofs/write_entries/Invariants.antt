@@ -1,5 +1,4 @@
 use mathlib.Core.Path.{◌≡◌}
-use Prim.Native.Nat.{◌-◌}
 use Rattle.event_log.specs.Layout.{header_of, workers_of}
 use Rattle.pack.specs.Packed.{start_of, entry_of}
 use Rattle.pack.proofs.Writing.{Written}
@@ -9,6 +8,3 @@ use Rattle.interval_log.proofs.write_entries.Given as goal
 abbrev pub invariant-loop-w : goal.invariant-loop-w
 invariant-loop-w l =
     (l.start ≡ start_of (interval_workers (workers_of l.log)) l.w) × Written (entry_of (interval_workers (workers_of l.log))) (header_of 0) l.initial.out l.n l.w l.out
-
-abbrev pub decreases-loop-w : goal.decreases-loop-w
-decreases-loop-w l = l.n - l.w

@@ -8,7 +8,7 @@ use Rattle.interval_log.proofs.write_receive.Goals as goal
 
 pub returns : goal.returns
 returns c = record {
-  out = c.write4-2.ensures.bytes
-      ∙ rw (c.write4.ensures.bytes, c.write2.ensures.bytes, c.write1-2.ensures.bytes, c.write1.ensures.bytes, c.kind_number.ensures.answer)
+  out = c.write-5.ensures.bytes
+      ∙ rw (c.write-4.ensures.bytes, c.write-3.ensures.bytes, c.write-2.ensures.bytes, c.write.ensures.bytes, c.from.ensures, c.from-2.ensures, c.kind_number.ensures.answer)
       (event_written (naming c.args.e c.args.number) c.args.at c.args.out.now (omega (arith, c.requires)));
 }

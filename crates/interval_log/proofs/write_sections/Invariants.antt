@@ -1,5 +1,4 @@
 use mathlib.Core.Path.{◌≡◌}
-use Prim.Native.Nat.{◌-◌}
 use Rattle.event_log.specs.Model.{worker_count}
 use Rattle.event_log.specs.Layout.{header_of, workers_of}
 use Rattle.pack.specs.Packed.{start_of, sections_of}
@@ -10,6 +9,3 @@ use Rattle.interval_log.proofs.write_sections.Given as goal
 abbrev pub invariant-loop-w : goal.invariant-loop-w
 invariant-loop-w l =
     (l.at ≡ start_of (interval_workers (workers_of l.log)) l.w) × Written (sections_of (interval_workers (workers_of l.log))) (header_of (worker_count (workers_of l.log))) l.initial.out l.n l.w l.out
-
-abbrev pub decreases-loop-w : goal.decreases-loop-w
-decreases-loop-w l = l.n - l.w

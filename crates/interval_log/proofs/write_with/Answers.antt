@@ -16,26 +16,10 @@ fill-requires c =
     let layout = accepted_layout _ c.requires.0.accepted in
     (layout, c.requires.1, workers_few _ layout, c.requires.2)
 
-pub worker_count-requires : goal.worker_count-requires
-worker_count-requires c = accepted_layout _ c.requires.0.accepted
-
 pub write_fields-requires : goal.write_fields-requires
 write_fields-requires c =
     let within = header_within (interval_workers (workers_of c.args.log.now)) in
     (omega (arith, c.requires.0.enough), c.worker_count.ensures.few, omega (arith, c.requires.0.fits, c.requires.0.long))
-
-pub write_entries-requires : goal.write_entries-requires
-write_entries-requires c = (
-  record { accepted = c.requires.0.accepted; blocks = c.fill.ensures.blocks },
-  c.requires.0.fits,
-  omega (arith, c.requires.0.enough, c.out-1.given),
-)
-
-pub write_sections-requires : goal.write_sections-requires
-write_sections-requires c = (
-  record { accepted = c.requires.0.accepted; blocks = c.fill.ensures.blocks },
-  omega (arith, c.requires.0.enough, c.out-2-1.given, c.out-1.given),
-)
 
 pub returns : goal.returns
 unfolding fields_of

@@ -16,7 +16,7 @@ write_events-behind-requires c = (c.requires.0, omega (arith, c.requires.1))
 
 pub write_checkpoints-requires : goal.write_checkpoints-requires
 unfolding sections_size
-write_checkpoints-requires c = (c.requires.0, omega (arith, c.requires.1, c.write_events-behind.ensures.answer, c.out-1.given))
+write_checkpoints-requires c = (c.requires.0, omega (arith, c.requires.1, c.write_events-behind.ensures.answer, c.write_events-behind.auto.out))
 
 pub returns : goal.returns
 unfolding sections_size sections_of
