@@ -9,7 +9,12 @@ use Rattle.replay.proofs.Storing.{answers_length}
 use Rattle.replay.proofs.list.steps.Goals as goal
 
 pub returns-then-refusal-ne0 : goal.returns-then-refusal-ne0
-returns-then-refusal-ne0 c = record { left = leaves_both_by _ _ _ _ (rw (← c.words_refusal-others.ensures.answer) c.steps_refusal-refusal.ensures.answer) (untouched _ _ _ c.if-refusal-ne0.true) (untouched _ _ _ c.if-refusal-ne0.true) }
+returns-then-refusal-ne0 c =
+    let no = c.if-refusal-ne0.true in
+    record {
+      left = leaves_both_by _ _ _ _ (rw (← c.words_refusal-others.ensures.answer) c.steps_refusal-refusal.ensures.answer)
+          (untouched _ _ _ no) (untouched _ _ _ no);
+    }
 
 pub advance_each-requires : goal.advance_each-requires
 advance_each-requires c =
