@@ -23,13 +23,6 @@ put_rest (x ∷ part) a ys e =
     let k : length part ≤ length (a ∷ part) - 1 = omega arith in
     ap (λ (l : List ℕ). a ∷ l) (rw (drop_of_length-le part k) (append-nil ys))
 
-pub rest_length : (part : List ℕ) (a n : ℕ) → length part ≡ n + 1 → length (take (length (set part 0 a) - 1) (drop 1 (set part 0 a))) ≡ n
-rest_length part a n e = simp (length-take, length-drop, length-set) (omega arith)
-
--- words that are all stored leave nothing of those lent
-pub all_stored : (front into : List ℕ) (n : ℕ) → length into ≡ n → front ++ drop n into ≡ front
-all_stored front into n long = let all : length into ≤ n = omega arith in rw (drop_of_length-le into all) (append-nil front)
-
 -- an answer and as many positions as there were
 pub step_wide : (log : Workers) (words lent positions : List ℕ) (w : ℕ) → length positions ≡ length lent
     → length (step_words (step_of log (cuts_in log words) (starts_in log words) positions w)) ≡ length lent + 1
