@@ -2,78 +2,112 @@
 
 use super::numbers::{
     ANSWERS_AT, FILLER, LINE, LIST_AT, READ_AT, ROOM, SCRATCH_ROOM, SIZE, TABLE_AT, WRITTEN_AT,
-    part, wide,
+    first, part,
 };
 use super::text::{GUARD, PAST, TOTALS, UNTOUCHED, print_changes};
 use super::{numbers, text};
 use std::io;
 use std::io::Write;
 
-// The numbers of the calls. Those from 14 to 23 are free.
-const LOG_REFUSAL: usize = 0;
+// The calls, and Free for a number that makes none.
+#[derive(Clone, Copy)]
+pub(crate) enum Call {
+    LogRefusal,
+    Vector,
+    UpperLine,
+    Covers,
+    CutTest,
+    Step,
+    Steps,
+    LowerCut,
+    Plan,
+    Restore,
+    Pack,
+    LoadTable,
+    BuiltIn,
+    Intervals,
+    Free,
+}
 
-const VECTOR: usize = 1;
+impl Call {
+    // The call of this number, as `scripts/calls.py` has them. Those from 14 on are free.
+    fn numbered(number: usize) -> Call {
+        match number {
+            0 => Call::LogRefusal,
+            1 => Call::Vector,
+            2 => Call::UpperLine,
+            3 => Call::Covers,
+            4 => Call::CutTest,
+            5 => Call::Step,
+            6 => Call::Steps,
+            7 => Call::LowerCut,
+            8 => Call::Plan,
+            9 => Call::Restore,
+            10 => Call::Pack,
+            11 => Call::LoadTable,
+            12 => Call::BuiltIn,
+            13 => Call::Intervals,
+            _ => Call::Free,
+        }
+    }
 
-const UPPER_LINE: usize = 2;
+    fn name(self) -> &'static str {
+        match self {
+            Call::LogRefusal => "log_refusal",
+            Call::Vector => "vector",
+            Call::UpperLine => "upper_line",
+            Call::Covers => "covers",
+            Call::CutTest => "cut_test",
+            Call::Step => "step",
+            Call::Steps => "steps",
+            Call::LowerCut => "lower_cut",
+            Call::Plan => "plan",
+            Call::Restore => "restore",
+            Call::Pack => "pack",
+            Call::LoadTable => "load_table",
+            Call::BuiltIn => "built_in",
+            Call::Intervals => "intervals",
+            Call::Free => "",
+        }
+    }
+}
 
-const COVERS: usize = 3;
-
-const CUT_TEST: usize = 4;
-
-const STEP: usize = 5;
-
-const STEPS: usize = 6;
-
-const LOWER_CUT: usize = 7;
-
-const PLAN: usize = 8;
-
-const RESTORE: usize = 9;
-
-const PACK: usize = 10;
-
-const LOAD_TABLE: usize = 11;
-
-const BUILT_IN: usize = 12;
-
-const INTERVALS: usize = 13;
-
-// The calls that write words of one kind; a number that is free makes none. `value` is the worker, or the identifier of a covering set.
+// The calls that write words of one kind; any other makes none. `value` is the worker, or the identifier of a covering set.
 fn run_one<W: Write>(
     out: &mut W,
     log: &[u8],
     event: u32,
-    given: [u32; SIZE],
-    call: usize,
+    given: &[u32; SIZE],
+    call: Call,
     value: u32,
 ) -> io::Result<u32> {
-    let mut read = given;
-    let mut loaded = given;
-    let mut written = given;
+    let mut read = *given;
+    let mut loaded = *given;
+    let mut written = *given;
     let words = part(&mut read, numbers::READ, READ_AT);
     let table = part(&mut loaded, numbers::TABLE, TABLE_AT);
     let lent = part(&mut written, numbers::WRITTEN, WRITTEN_AT);
     let number = match call {
-        LOG_REFUSAL => planner::log_refusal(log),
-        VECTOR => planner::vector(log, value, event, lent),
-        UPPER_LINE => planner::upper_line(log, value, event, lent),
-        COVERS => planner::covers(log, value, lent),
-        CUT_TEST => planner::cut_test(log, words, lent),
-        STEP => planner::step(log, words, lent, value),
-        LOAD_TABLE => planner::load_table(table),
-        BUILT_IN => planner::built_in_table(lent),
+        Call::LogRefusal => planner::log_refusal(log),
+        Call::Vector => planner::vector(log, value, event, lent),
+        Call::UpperLine => planner::upper_line(log, value, event, lent),
+        Call::Covers => planner::covers(log, value, lent),
+        Call::CutTest => planner::cut_test(log, words, lent),
+        Call::Step => planner::step(log, words, lent, value),
+        Call::LoadTable => planner::load_table(table),
+        Call::BuiltIn => planner::built_in_table(lent),
         _ => 0,
     };
-    print_changes(out, b'w', WRITTEN_AT, given, written)?;
+    print_changes(out, 'w', WRITTEN_AT, given, &written)?;
     Ok(number)
 }
 
 // The steps of a list.
-fn run_steps<W: Write>(out: &mut W, log: &[u8], given: [u32; SIZE]) -> io::Result<u32> {
-    let mut read = given;
-    let mut list = given;
-    let mut written = given;
-    let mut answers = given;
+fn run_steps<W: Write>(out: &mut W, log: &[u8], given: &[u32; SIZE]) -> io::Result<u32> {
+    let mut read = *given;
+    let mut list = *given;
+    let mut written = *given;
+    let mut answers = *given;
     let words = part(&mut read, numbers::READ, READ_AT);
     let workers = part(&mut list, numbers::LIST, LIST_AT);
     let number = planner::steps(
@@ -83,35 +117,27 @@ fn run_steps<W: Write>(out: &mut W, log: &[u8], given: [u32; SIZE]) -> io::Resul
         workers,
         part(&mut answers, numbers::ANSWERS, ANSWERS_AT),
     );
-    print_changes(out, b'w', WRITTEN_AT, given, written)?;
-    print_changes(out, b'a', ANSWERS_AT, given, answers)?;
+    print_changes(out, 'w', WRITTEN_AT, given, &written)?;
+    print_changes(out, 'a', ANSWERS_AT, given, &answers)?;
     Ok(number)
 }
 
-// Prints the scratch that a search changes where it is refused, and else the words behind it, since the scratch itself is then free.
-fn print_scratch<W: Write>(
-    out: &mut W,
-    number: u32,
-    given: [u32; SIZE],
-    scratch: &[u32; SCRATCH_ROOM],
-) -> io::Result<()> {
-    if number != 0 {
-        return text::print_scratch_from(out, b's', 0, scratch);
-    }
-    text::print_scratch_from(out, b'g', wide(given[numbers::SCRATCH]), scratch)
-}
-
-// Prints what a search leaves.
+// Prints what a search leaves. Where it is refused, that is any change of the scratch, and else of the words behind it, since the scratch
+// itself is then free.
 fn print_search<W: Write>(
     out: &mut W,
     number: u32,
-    given: [u32; SIZE],
-    written: [u32; SIZE],
-    scratch: &[u32; SCRATCH_ROOM],
-    totals: &[u64; TOTALS],
+    given: &[u32; SIZE],
+    written: &[u32; SIZE],
+    scratch: &[u32],
+    totals: &[u64],
 ) -> io::Result<()> {
-    print_changes(out, b'w', WRITTEN_AT, given, written)?;
-    print_scratch(out, number, given, scratch)?;
+    print_changes(out, 'w', WRITTEN_AT, given, written)?;
+    if number != 0 {
+        text::print_scratch_from(out, 's', 0, scratch)?;
+    } else {
+        text::print_scratch_from(out, 'g', given[numbers::SCRATCH] as usize, scratch)?;
+    }
     text::print_totals(out, totals)
 }
 
@@ -120,23 +146,22 @@ fn run_search<W: Write>(
     out: &mut W,
     log: &[u8],
     event: u32,
-    given: [u32; SIZE],
-    is_plan: bool,
+    given: &[u32; SIZE],
+    call: Call,
     worker: u32,
 ) -> io::Result<u32> {
-    let mut loaded = given;
-    let mut written = given;
+    let mut loaded = *given;
+    let mut written = *given;
     let mut scratch = [FILLER; SCRATCH_ROOM];
     let mut totals = [UNTOUCHED; TOTALS];
     let table = part(&mut loaded, numbers::TABLE, TABLE_AT);
     let lent = part(&mut written, numbers::WRITTEN, WRITTEN_AT);
-    let room = numbers::part_of_scratch(&mut scratch, given);
-    let number = if is_plan {
-        planner::plan(log, worker, event, table, lent, room, &mut totals)
-    } else {
-        planner::lower_cut(log, worker, event, lent, room, &mut totals)
+    let room = first(&mut scratch, given[numbers::SCRATCH] as usize);
+    let number = match call {
+        Call::Plan => planner::plan(log, worker, event, table, lent, room, &mut totals),
+        _ => planner::lower_cut(log, worker, event, lent, room, &mut totals),
     };
-    print_search(out, number, given, written, &scratch, &totals)?;
+    print_search(out, number, given, &written, &scratch, &totals)?;
     Ok(number)
 }
 
@@ -145,15 +170,15 @@ fn run_restore<W: Write>(
     out: &mut W,
     log: &[u8],
     event: u32,
-    given: [u32; SIZE],
+    given: &[u32; SIZE],
     worker: u32,
 ) -> io::Result<u32> {
-    let mut list = given;
-    let mut loaded = given;
-    let mut written = given;
+    let mut list = *given;
+    let mut loaded = *given;
+    let mut written = *given;
     let mut scratch = [FILLER; SCRATCH_ROOM];
-    let mut positions = given;
-    let mut answers = given;
+    let mut positions = *given;
+    let mut answers = *given;
     let mut totals = [UNTOUCHED; TOTALS];
     let workers = part(&mut list, numbers::LIST, LIST_AT);
     let table = part(&mut loaded, numbers::TABLE, TABLE_AT);
@@ -164,43 +189,34 @@ fn run_restore<W: Write>(
         workers,
         table,
         part(&mut written, numbers::WRITTEN, WRITTEN_AT),
-        numbers::part_of_scratch(&mut scratch, given),
+        first(&mut scratch, given[numbers::SCRATCH] as usize),
         part(&mut positions, numbers::POSITIONS, WRITTEN_AT),
         part(&mut answers, numbers::ANSWERS, ANSWERS_AT),
-        numbers::part_of_totals(&mut totals, given),
+        first(&mut totals, given[numbers::TOTALS] as usize),
     );
-    print_changes(out, b'p', WRITTEN_AT, given, positions)?;
-    print_changes(out, b'a', ANSWERS_AT, given, answers)?;
-    print_search(out, number, given, written, &scratch, &totals)?;
+    print_changes(out, 'p', WRITTEN_AT, given, &positions)?;
+    print_changes(out, 'a', ANSWERS_AT, given, &answers)?;
+    print_search(out, number, given, &written, &scratch, &totals)?;
     Ok(number)
-}
-
-// Packing, or the conversion to an interval log.
-fn write_log(log: &[u8], is_pack: bool, out: &mut [u8], written: &mut [u64]) -> u32 {
-    if is_pack {
-        return planner::pack(log, out, written);
-    }
-    planner::intervals(log, out, written)
 }
 
 // The packed log or the interval log, in the bytes that are lent.
 fn run_writer<W: Write>(
     out: &mut W,
     log: &[u8],
-    given: [u32; SIZE],
-    is_pack: bool,
+    given: &[u32; SIZE],
+    call: Call,
 ) -> io::Result<u32> {
     let mut bytes = [GUARD; ROOM + PAST];
     let mut totals = [UNTOUCHED; TOTALS];
-    let count = numbers::bytes_lent(given);
-    let number = write_log(
-        log,
-        is_pack,
-        numbers::first(&mut bytes, count),
-        numbers::part_of_totals(&mut totals, given),
-    );
-    let shown = numbers::first(&mut bytes, count + PAST);
-    text::print_bytes(out, shown)?;
+    let count = ROOM.min(given[numbers::BYTES] as usize);
+    let lent = first(&mut bytes, count);
+    let written = first(&mut totals, given[numbers::TOTALS] as usize);
+    let number = match call {
+        Call::Pack => planner::pack(log, lent, written),
+        _ => planner::intervals(log, lent, written),
+    };
+    text::print_bytes(out, &bytes[..count + PAST])?;
     text::print_totals(out, &totals)?;
     Ok(number)
 }
@@ -211,25 +227,22 @@ pub(crate) fn run_entry<W: Write>(
     name: &str,
     log: &[u8],
     event: u32,
-    given: [u32; SIZE],
-    call: usize,
+    given: &[u32; SIZE],
+    entry: usize,
     value: u32,
 ) -> io::Result<()> {
-    if call < LINE {
-        text::print_name(out, call)?;
-        let number = match call {
-            STEPS => run_steps(out, log, given)?,
-            LOWER_CUT => run_search(out, log, event, given, false, value)?,
-            PLAN => run_search(out, log, event, given, true, value)?,
-            RESTORE => run_restore(out, log, event, given, value)?,
-            PACK => run_writer(out, log, given, true)?,
-            INTERVALS => run_writer(out, log, given, false)?,
-            _ => run_one(out, log, event, given, call, value)?,
-        };
-        text::print_byte(out, b' ')?;
-        return text::print_number(out, b'=', number);
+    if entry == LINE {
+        return write!(out, "\n{name} {value}");
     }
-    text::print_byte(out, b'\n')?;
-    out.write_all(name.as_bytes())?;
-    text::print_number(out, b' ', value)
+    let call = Call::numbered(entry);
+    let call_name = call.name();
+    write!(out, " {call_name:<11}")?;
+    let number = match call {
+        Call::Steps => run_steps(out, log, given)?,
+        Call::LowerCut | Call::Plan => run_search(out, log, event, given, call, value)?,
+        Call::Restore => run_restore(out, log, event, given, value)?,
+        Call::Pack | Call::Intervals => run_writer(out, log, given, call)?,
+        _ => run_one(out, log, event, given, call, value)?,
+    };
+    write!(out, " ={number}")
 }

@@ -3,31 +3,15 @@
 // An argument names a case file, an input of the program `plan`: worker and event, 32 bits each, then the log.
 #![tactic(auto)]
 
-ghost use Rattle.std.specs.Prelude.{◌≤◌, IfOk, length};
-
 mod calls;
 mod numbers;
 mod text;
 
 use numbers::{ROOM, SIZE};
+use plan_text::input::read_full;
 use std::io::{BufReader, BufWriter, Read, Write};
 use std::rt::Files;
 use std::{env, fs, io};
-
-// Reads until the buffer is full or the file ends, and gives how many bytes are read.
-fn read_full<R: Read>(file: &mut R, buffer: &mut [u8]) -> io::Result<usize>
-    ensures { IfOk result (λ n. n ≤ length buffer.new) }
-{
-    let mut done: usize = 0;
-    while done < buffer.len() {
-        let count = file.read(&mut buffer[done..])?;
-        if count == 0 {
-            break;
-        }
-        done += count;
-    }
-    Ok(done)
-}
 
 // The next number of a file, of 4 bytes with the lowest first; 0 after its end.
 fn read_number<R: Read>(file: &mut R) -> io::Result<u32> {
@@ -51,7 +35,7 @@ fn run_entries<R: Read, W: Write>(
         let value = read_number(input)?;
         given[at] = value;
         if at < numbers::ENTRIES {
-            calls::run_entry(out, name, log, event, given, at, value)?;
+            calls::run_entry(out, name, log, event, &given, at, value)?;
         }
     }
     Ok(())
@@ -70,7 +54,7 @@ fn run_case<R: Read, W: Write, F: Read>(
     let length = read_full(file, &mut log)?;
     out.write_all(name.as_bytes())?;
     run_entries(input, out, name, &log[..length], event)?;
-    text::print_byte(out, b'\n')
+    out.write_all(b"\n")
 }
 
 // The case that an argument names. A file that does not open is as an empty one.

@@ -66,55 +66,16 @@ pub const SCRATCH_ROOM: usize = event_log::MAX_WORKERS * event_log::MAX_WORKERS 
 // The bytes that there are to lend.
 pub const ROOM: usize = 65536;
 
-// A number as one of words.
-pub(crate) fn wide(x: u32) -> usize {
-    x as usize
-}
-
 // The words to lend, from place `from` on: as many as stand at place `kind`, or as there are.
 pub(crate) fn part(numbers: &mut [u32], kind: usize, from: usize) -> &mut [u32]
     requires { (kind < length numbers.old) × (from ≤ length numbers.old) }
 {
-    let count = wide(numbers[kind]);
-    if count < numbers.len() - from {
-        return &mut numbers[from..from + count];
-    }
-    &mut numbers[from..]
+    let count = numbers[kind] as usize;
+    first(&mut numbers[from..], count)
 }
 
-// The scratch to lend: as many words as stand at place SCRATCH, or as there are.
-pub(crate) fn part_of_scratch(scratch: &mut [u32], given: [u32; SIZE]) -> &mut [u32] {
-    let count = wide(given[SCRATCH]);
-    if count < scratch.len() {
-        return &mut scratch[0..count];
-    }
-    scratch
-}
-
-// The totals to lend: as many as stand at place TOTALS, or as there are.
-pub(crate) fn part_of_totals(totals: &mut [u64], given: [u32; SIZE]) -> &mut [u64] {
-    let count = wide(given[TOTALS]);
-    if count < totals.len() {
-        return &mut totals[0..count];
-    }
-    totals
-}
-
-// How many bytes are lent: as many as stand at place BYTES, or as there are.
-pub(crate) fn bytes_lent(given: [u32; SIZE]) -> usize
-    ensures { result ≤ 65536 }
-{
-    let count = wide(given[BYTES]);
-    if count < ROOM {
-        return count;
-    }
-    ROOM
-}
-
-// The first bytes, so many or all.
-pub(crate) fn first(bytes: &mut [u8], count: usize) -> &mut [u8] {
-    if count < bytes.len() {
-        return &mut bytes[0..count];
-    }
-    bytes
+// The first of some words or bytes: so many, or all.
+pub(crate) fn first<T>(items: &mut [T], count: usize) -> &mut [T] {
+    let count = count.min(items.len());
+    &mut items[..count]
 }

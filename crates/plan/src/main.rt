@@ -1,25 +1,9 @@
 // Prints the restore plan of the breakpoint event and log that standard input holds.
 #![tactic(auto)]
 
-ghost use Rattle.std.specs.Prelude.{◌≤◌, IfOk, length};
-
+use plan_text::input::read_full;
 use std::io;
-use std::io::{Read, Write};
-
-// Reads until the buffer is full or the input ends, and gives how many bytes are read.
-fn read_full<R: Read>(input: &mut R, buffer: &mut [u8]) -> io::Result<usize>
-    ensures { IfOk result (λ n. n ≤ length buffer.new) }
-{
-    let mut done: usize = 0;
-    while done < buffer.len() {
-        let count = input.read(&mut buffer[done..])?;
-        if count == 0 {
-            break;
-        }
-        done += count;
-    }
-    Ok(done)
-}
+use std::io::Write;
 
 fn main(rt: HostRuntime) -> io::Result<()> {
     // one byte more than the longest input, so that a longer one is seen

@@ -51,8 +51,9 @@ lacks_fewer digits (suc (suc k)) rest text inside more h =
 
 -- the first digit is put
 pub lacks_none : (digits : List ℕ) (from rest : ℕ) (text : List ℕ) → from ≤ length digits → rest < 10 → Lacks digits from rest text
-    → drop (from - 1) (set digits (from - 1) (48 + rest)) ≡ text
+    → drop (from - 1) (set digits (from - 1) (48 + rest % 10)) ≡ text
 lacks_none digits zero rest text inside last h = absurd (omega (arith, h.some))
 lacks_none digits (suc k) rest text inside last h =
     let one : suc k - 1 ≡ k = omega arith in
-    rw (one, drop-set digits k (48 + rest) (omega arith), add-one) (sym (spelled_last k rest (drop (suc k) digits) last) ∙ h.whole)
+    let digit : rest % 10 ≡ rest = omega arith in
+    rw (one, digit, drop-set digits k (48 + rest) (omega arith), add-one) (sym (spelled_last k rest (drop (suc k) digits) last) ∙ h.whole)

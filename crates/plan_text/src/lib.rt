@@ -1,6 +1,8 @@
 // What the program `plan` prints: the plan of an input, as text in a lent buffer.
 #![tactic(auto)]
 
+pub mod input;
+
 ghost use Rattle.std.specs.Prelude.{◌≡◌, [], ◌∷◌, ◌++◌, ◌+◌, ◌*◌, ◌<◌, ◌≤◌, length, drop};
 ghost use Rattle.lent.specs.Lent.{words_refusal, unless_refused};
 ghost use Rattle.event_log.specs.Layout.{workers_of};
@@ -21,28 +23,16 @@ const MAX_INPUT: usize = 65536;
 // The scratch for the longest plan.
 const SCRATCH: usize = 2 * event_log::MAX_WORKERS;
 
-// Puts a byte at a place of the text, where there is room for it, and gives the place after it.
-fn put_byte(out: &mut [u8], at: usize, byte: u8) -> usize
-    ensures text { Adds out.old at out.new result (λ text. text ++ (byte ∷ [])) }
+// Puts bytes at a place of the text, as many as there is room for, and gives the place after them.
+fn put(out: &mut [u8], at: usize, bytes: &[u8]) -> usize
+    ensures text { Adds out.old at out.new result (λ text. text ++ bytes.now) }
 {
     if out.len() <= at {
         return at;
     }
-    out[at] = byte;
-    at + 1
-}
-
-// Puts bytes, as many as there is room for.
-fn put(out: &mut [u8], at: usize, bytes: &[u8]) -> usize
-    ensures text { Adds out.old at out.new result (λ text. text ++ bytes.now) }
-{
-    let mut next = at;
-    let mut k: usize = 0;
-    while k < bytes.len() {
-        next = put_byte(out, next, bytes[k]);
-        k += 1;
-    }
-    next
+    let count = bytes.len().min(out.len() - at);
+    out[at..at + count].copy_from_slice(&bytes[..count]);
+    at + count
 }
 
 // Writes the digits of a number to the end of the bytes, and gives the place of the first.
@@ -51,15 +41,14 @@ fn write_decimal(number: u64, digits: &mut [u8; 20]) -> usize
     ensures text { drop result digits.new ≡ decimal number }
 {
     let mut rest = number;
-    let mut from: usize = 20;
-    while 10 <= rest {
-        from -= 1;
+    for from in (0..20).rev() {
         digits[from] = b'0' + (rest % 10) as u8;
         rest /= 10;
+        if rest == 0 {
+            return from;
+        }
     }
-    from -= 1;
-    digits[from] = b'0' + rest as u8;
-    from
+    0
 }
 
 // Puts a name and a number in decimal.
@@ -107,21 +96,18 @@ fn put_breakpoint(out: &mut [u8], worker: u32, event: u32) -> usize
 fn put_four(
     out: &mut [u8],
     at: usize,
-    first: &[u8],
-    a: u64,
-    second: &[u8],
-    b: u64,
-    third: &[u8],
-    c: u64,
-    fourth: &[u8],
-    d: u64,
+    first: (&[u8], u64),
+    second: (&[u8], u64),
+    third: (&[u8], u64),
+    fourth: (&[u8], u64),
 ) -> usize
-    ensures text { Adds out.old at out.new result (λ text. four_numbers text first.now a second.now b third.now c fourth.now d) }
+    ensures text { Adds out.old at out.new result
+        (λ text. four_numbers text first.entry.0.now first.entry.1 second.entry.0.now second.entry.1 third.entry.0.now third.entry.1 fourth.entry.0.now fourth.entry.1) }
 {
-    let one = put_number(out, at, first, a);
-    let two = put_number(out, one, second, b);
-    let three = put_number(out, two, third, c);
-    let four = put_number(out, three, fourth, d);
+    let one = put_number(out, at, first.0, first.1);
+    let two = put_number(out, one, second.0, second.1);
+    let three = put_number(out, two, third.0, third.1);
+    let four = put_number(out, three, fourth.0, fourth.1);
     put_end(out, four)
 }
 
@@ -132,14 +118,10 @@ fn put_words(out: &mut [u8], at: usize, cut: u32, upper: u32, start: u32, identi
     put_four(
         out,
         at,
-        b" cut ",
-        cut as u64,
-        b" upper ",
-        upper as u64,
-        b" start ",
-        start as u64,
-        b" checkpoint ",
-        identifier as u64,
+        (b" cut ", cut as u64),
+        (b" upper ", upper as u64),
+        (b" start ", start as u64),
+        (b" checkpoint ", identifier as u64),
     )
 }
 
@@ -172,10 +154,8 @@ fn put_processes(out: &mut [u8], at: usize, log: &[u8], words: &[u32], upper: &[
 {
     let n = event_log::worker_count(log);
     let mut next = at;
-    let mut w: usize = 0;
-    while w < n {
+    for w in 0..n {
         next = put_process(out, next, w, event_log::role_of(log, w), words, upper);
-        w += 1;
     }
     next
 }
@@ -194,14 +174,10 @@ fn put_totals(
     put_four(
         out,
         at,
-        b"visits ",
-        visits,
-        b" events ",
-        events,
-        b" units ",
-        units,
-        b" workers ",
-        workers,
+        (b"visits ", visits),
+        (b" events ", events),
+        (b" units ", units),
+        (b" workers ", workers),
     )
 }
 
@@ -274,10 +250,7 @@ fn put_plan(out: &mut [u8], log: &[u8], worker: u32, event: u32) -> usize
 pub fn write_text(input: &[u8], out: &mut [u8]) -> usize
     ensures text { Holds out.old (text_of input.now) out.new result }
 {
-    if input.len() < 8 {
-        return put_refused(out, 1);
-    }
-    if MAX_INPUT < input.len() {
+    if input.len() < 8 || MAX_INPUT < input.len() {
         return put_refused(out, 1);
     }
     put_plan(

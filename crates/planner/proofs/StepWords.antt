@@ -23,17 +23,6 @@ put_rest (x ∷ part) a ys e =
     let k : length part ≤ length (a ∷ part) - 1 = omega arith in
     ap (λ (l : List ℕ). a ∷ l) (rw (drop_of_length-le part k) (append-nil ys))
 
-pub rest_length : (part : List ℕ) (a n : ℕ) → length part ≡ n + 1 → length (take (length (set part 0 a) - 1) (drop 1 (set part 0 a))) ≡ n
-rest_length part a n e = simp (length-take, length-drop, length-set) (omega arith)
-
--- words that are all stored leave nothing of those lent
-pub all_stored : (front into : List ℕ) (n : ℕ) → length into ≡ n → front ++ drop n into ≡ front
-all_stored front into n long = let all : length into ≤ n = omega arith in rw (drop_of_length-le into all) (append-nil front)
-
--- where the words of the next call stand
-pub next_place : (at j width : ℕ) → at ≡ j * width → at + width ≡ (j + 1) * width
-next_place at j width place = rw (add-one, suc-mul j width) (omega arith)
-
 -- an answer and as many positions as there were
 pub step_wide : (log : Workers) (words lent positions : List ℕ) (w : ℕ) → length positions ≡ length lent
     → length (step_words (step_of log (cuts_in log words) (starts_in log words) positions w)) ≡ length lent + 1
@@ -58,19 +47,18 @@ module _ (log : Given) (accepted : log.refusal ≡ 0) (words workers lent into :
       storing_room step_words width log.workers words workers lent into (step_wide log.workers words lent) j positions steps is all h
 
   -- .. and stand behind the others when they are stored
-  pub step_stored : (answer at then : ℕ) (next : List ℕ) → answer ≡ step_answer log words positions w → next ≡ step_after log words positions w
-      → at ≡ j * width → then ≡ at + width → Storing step_words width log.workers words workers lent into (j + 1) next (put_mid at (then - at) steps (answer ∷ next))
+  pub step_stored : (answer : ℕ) (next : List ℕ) → answer ≡ step_answer log words positions w → next ≡ step_after log words positions w
+      → Storing step_words width log.workers words workers lent into (j + 1) next (put_mid (j * width) (j * width + width - j * width) steps (answer ∷ next))
   unfolding step_of
-  step_stored answer at then next a b place t =
+  step_stored answer next a b =
       let machine : next ≡ machine_moved log.workers words positions w = b ∙ step_positions log accepted words positions is.state w in
       let told : answer ≡ machine_answer log.workers words positions w = a ∙ step_answer_lem log accepted words positions is.state w in
       let count = done_length step_words width log.workers words workers lent into (step_wide log.workers words lent) j positions steps is in
-      let front : steps ≡ done ++ drop at into = is.front ∙ rw (place) refl in
-      let put = part_stored done into (answer ∷ next) at then (count ∙ sym place) (omega arith) in
-      let last : (done ++ (answer ∷ next)) ++ drop then into ≡ (done ++ (machine_answer log.workers words positions w ∷ machine_moved log.workers words positions w)) ++ drop (j * width + width) into =
-      rw (told, machine, t, place) in
+      let put = part_stored done into (answer ∷ next) (j * width) (j * width + width) count (omega arith) in
+      let last : (done ++ (answer ∷ next)) ++ drop (j * width + width) into
+          ≡ (done ++ (machine_answer log.workers words positions w ∷ machine_moved log.workers words positions w)) ++ drop (j * width + width) into = rw (told, machine) in
       storing_more step_words width log.workers words workers lent into (step_wide log.workers words lent) j positions steps is h next _ machine
-      (ap (λ (l : List ℕ). put_mid at (then - at) l (answer ∷ next)) front ∙ put ∙ last)
-      (same_len_mid at (then - at) steps (answer ∷ next)
+      (ap (λ (l : List ℕ). put_mid (j * width) (j * width + width - j * width) l (answer ∷ next)) is.front ∙ put ∙ last)
+      (same_len_mid (j * width) (j * width + width - j * width) steps (answer ∷ next)
       (let fits = step_room in let same = moved_long log.workers (cuts_in log.workers words) (starts_in log.workers words) positions w in
       simp (length-take, length-drop) (omega (arith, ap length machine, is.same))) ∙ is.whole)

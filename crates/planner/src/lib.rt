@@ -169,15 +169,6 @@ pub fn sheet(log: &[u8], list: &[u32], table: &[u32], sheet: &mut [u64], scratch
     sheet::sheet(log, list, table, sheet, scratch)
 }
 
-fn word_of(b: bool) -> u32
-    ensures answer { result ≡ word_of b }
-{
-    if b {
-        return 1;
-    }
-    0
-}
-
 // Writes what a test found, where it was not refused.
 fn write_answer(test: Test, answer: &mut [u32]) -> u32
     requires { test.refusal ≡ 0 → 1 ≤ length answer.old }
@@ -188,7 +179,7 @@ fn write_answer(test: Test, answer: &mut [u32]) -> u32
     if refusal != 0 {
         return refusal;
     }
-    answer[0] = word_of(test.yes);
+    answer[0] = u32::from(test.yes);
     0
 }
 

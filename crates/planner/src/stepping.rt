@@ -15,7 +15,7 @@ fn store(answer: u32, positions: &[u32], part: &mut [u32])
     ensures part { part.new ≡ answer ∷ positions.now }
 {
     part[0] = answer;
-    lent::copy(positions, &mut part[1..]);
+    part[1..].copy_from_slice(positions);
 }
 
 // One call of `step` for each number of the list, with what each leaves.
@@ -26,14 +26,11 @@ fn step_each(log: &[u8], words: &[u32], workers: &[u32], positions: &mut [u32], 
     ensures positions { positions.new ≡ machine_after (workers_of log.now) words.now positions.old workers.now }
 {
     let width = positions.len() + 1;
-    let mut j: usize = 0;
-    let mut at: usize = 0;
-    while j < workers.len() {
-        let answer = crate::step(log, words, positions, workers[j]);
-        let next = at + width;
-        store(answer, positions, &mut steps[at..next]);
-        at = next;
-        j += 1;
+    // By place: of parts lent out by chunks_exact_mut a proof knows nothing afterwards.
+    for (j, worker) in workers.iter().enumerate() {
+        let answer = crate::step(log, words, positions, *worker);
+        let at = j * width;
+        store(answer, positions, &mut steps[at..at + width]);
     }
 }
 

@@ -100,14 +100,6 @@ module _ (each : Step → List ℕ) (width : ℕ) (log : Workers) (words workers
           whole = long;
         }
 
-    -- the list is done
-    pub storing_end : length workers ≤ j
-        → (stored ≡ listed each (machine_run log words lent workers) ++ drop (length workers * width) into) × (positions ≡ machine_after log words lent workers)
-    storing_end h =
-        let all = take_all j workers h in
-        let e : j ≡ length workers = omega (arith, is.bound) in
-        (is.front ∙ rw (all, e), is.placed ∙ rw all)
-
 -- ---- the answers alone, one word for each step
 pub answers_length : (log : Workers) (words positions workers : List ℕ) → length (listed answer_word (machine_run log words positions workers)) ≡ length workers
 answers_length log words positions workers =

@@ -5,13 +5,13 @@ use lib.ListN.{length-set}
 use Rattle.plan_text.proofs.Decimal.{lacks_all, lacks_fewer, lacks_none}
 use Rattle.plan_text.proofs.write_decimal.Goals as goal
 
-pub loop-rest-init : goal.loop-rest-init
-loop-rest-init c = (omega arith, omega arith, lacks_all _ _ (omega arith) (omega arith))
+pub loop-from-init : goal.loop-from-init
+loop-from-init c = (omega arith, omega arith, lacks_all _ _ (omega arith) (omega arith))
 
-pub loop-rest-preserved : goal.loop-rest-preserved
-loop-rest-preserved c =
-    let kept = c.loop-rest.invariant in
-    (omega arith, simp length-set kept.1, lacks_fewer _ _ _ _ (omega arith) c.loop-rest-test.true kept.2)
+pub returns-then-rest-eq0-clause-text : goal.returns-then-rest-eq0-clause-text
+returns-then-rest-eq0-clause-text c = let kept = c.loop-from.invariant in lacks_none _ _ _ _ (omega arith) (omega arith) kept.2
 
-pub returns-clause-text : goal.returns-clause-text
-returns-clause-text c = let kept = c.loop-rest.invariant in lacks_none _ _ _ _ (omega arith) c.loop-rest-test.false kept.2
+pub loop-from-preserved : goal.loop-from-preserved
+loop-from-preserved c =
+    let kept = c.loop-from.invariant in
+    (omega arith, simp length-set kept.1, lacks_fewer _ _ _ _ (omega arith) (omega arith) kept.2)

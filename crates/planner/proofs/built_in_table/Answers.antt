@@ -14,7 +14,11 @@ use Rattle.planner.proofs.built_in_table.Goals as goal
 
 pub returns-then-refusal-ne0 : goal.returns-then-refusal-ne0
 returns-then-refusal-ne0 c =
-    let no = c.if-refusal-ne0.true in record { left = leaves_by _ _ c.words_refusal-refusal.ensures.answer (untouched _ _ _ no); loads = λ none. absurd (no none) }
+    let no = c.if-refusal-ne0.true in
+    record {
+      left = leaves_by _ _ c.words_refusal-refusal.ensures.answer (untouched _ _ _ no);
+      loads = λ none. absurd (no none);
+    }
 
 pub slice_bounds-write_built_in-end : goal.slice_bounds-write_built_in-end
 slice_bounds-write_built_in-end c =
@@ -34,4 +38,8 @@ write_built_in-requires c =
 pub returns : goal.returns
 returns c =
     let long = loaded_long built_in_words built_in_loads in
-    let left = c.write_built_in.ensures.table in record { left = leaves_by _ _ (sym c.if-refusal-ne0.false ∙ c.words_refusal-refusal.ensures.answer) (rw left (written 0 table_words built_in_words _ refl long)); loads = λ _. rw (left, take_at built_in_words _ table_words long) built_in_loads }
+    let left = c.write_built_in.ensures.table in
+    record {
+      left = leaves_by _ _ (sym c.if-refusal-ne0.false ∙ c.words_refusal-refusal.ensures.answer) (rw left (written 0 table_words built_in_words _ refl long));
+      loads = λ _. rw (left, take_at built_in_words _ table_words long) built_in_loads;
+    }

@@ -12,4 +12,9 @@ write_answer-requires c = λ none. words_ok _ _ (sym c.words_refusal-others.ensu
 pub returns : goal.returns
 returns c =
     let written = c.write_answer.ensures in
-    let tested = c.covers.ensures in record { left = leaves_by _ _ (written.answer ∙ rw (← c.words_refusal-others.ensures.answer) tested.refused) (rw written.answer (written.word ∙ rw tested.answer (answered _ _ _))); exactly = (λ none. let zero = sym written.answer ∙ none in rw (first_word _ _ _ _ written.word zero) (tested.exactly zero)); withdrawn = λ none. let zero = sym written.answer ∙ none in rw (first_word _ _ _ _ written.word zero) (tested.withdrawn zero) }
+    let tested = c.covers.ensures in
+    record {
+      left = leaves_by _ _ (written.answer ∙ rw (← c.words_refusal-others.ensures.answer) tested.refused) (rw written.answer (written.word ∙ rw tested.answer (answered _ _ _)));
+      exactly = (λ none. let zero = sym written.answer ∙ none in rw (first_word _ _ _ _ written.word zero) (tested.exactly zero));
+      withdrawn = λ none. let zero = sym written.answer ∙ none in rw (first_word _ _ _ _ written.word zero) (tested.withdrawn zero);
+    }

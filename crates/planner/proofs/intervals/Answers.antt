@@ -11,7 +11,11 @@ use Rattle.planner.proofs.intervals.Goals as goal
 
 pub returns-then-refusal-ne0 : goal.returns-then-refusal-ne0
 returns-then-refusal-ne0 c =
-    let no = c.if-refusal-ne0.true in record { left = leaves_both_by _ _ _ _ (rw (← c.words_refusal-others.ensures.answer) c.intervals-converted.ensures.refused) c.intervals-converted.ensures.out (untouched _ _ _ no); converted = λ none. absurd (no none) }
+    let no = c.if-refusal-ne0.true in
+    record {
+      left = leaves_both_by _ _ _ _ (rw (← c.words_refusal-others.ensures.answer) c.intervals-converted.ensures.refused) c.intervals-converted.ensures.out (untouched _ _ _ no);
+      converted = λ none. absurd (no none);
+    }
 
 pub bounds-written-0 : goal.bounds-written-0
 bounds-written-0 c = words_ok _ _ (sym c.words_refusal-others.ensures.answer ∙ (intervals_ok c.intervals-converted.ensures.refused c.if-refusal-ne0.false).rest)
@@ -25,4 +29,8 @@ returns c =
     let is = c.intervals-converted.ensures.answer in
     let written = c.args.written.now in
     let filled = rw none at c.intervals-converted.ensures.out in
-    let first = number_first log is none written enough in record { left = leaves_both_by _ _ _ _ (sym none ∙ rw (← c.words_refusal-others.ensures.answer) c.intervals-converted.ensures.refused) filled (number_stored log is none written enough); converted = λ _. rw first (c.intervals-converted.ensures.converted none) }
+    let first = number_first log is none written enough in
+    record {
+      left = leaves_both_by _ _ _ _ (sym none ∙ rw (← c.words_refusal-others.ensures.answer) c.intervals-converted.ensures.refused) filled (number_stored log is none written enough);
+      converted = λ _. rw first (c.intervals-converted.ensures.converted none);
+    }

@@ -9,7 +9,11 @@ use Rattle.planner.proofs.lower_cut.Goals as goal
 
 pub returns-then-refusal-ne0 : goal.returns-then-refusal-ne0
 returns-then-refusal-ne0 c =
-    let called = c.lower_cut-found.ensures in record { left = leaves_both_by _ _ _ _ (rw (← c.words_refusal-others.ensures.answer) called.refused) called.words (untouched _ _ _ c.if-refusal-ne0.true); kept = called.kept }
+    let called = c.lower_cut-found.ensures in
+    record {
+      left = leaves_both_by _ _ _ _ (rw (← c.words_refusal-others.ensures.answer) called.refused) called.words (untouched _ _ _ c.if-refusal-ne0.true);
+      kept = called.kept;
+    }
 
 pub write_cut-requires : goal.write_cut-requires
 write_cut-requires c =

@@ -11,7 +11,12 @@ use Rattle.planner.proofs.pack.Goals as goal
 
 pub returns-then-refusal-ne0 : goal.returns-then-refusal-ne0
 returns-then-refusal-ne0 c =
-    let no = c.if-refusal-ne0.true in record { left = leaves_both_by _ _ _ _ (rw (← c.words_refusal-others.ensures.answer) c.pack-packed.ensures.refused) c.pack-packed.ensures.out (untouched _ _ _ no); archived = (λ none. absurd (no none)); alike = λ none. absurd (no none) }
+    let no = c.if-refusal-ne0.true in
+    record {
+      left = leaves_both_by _ _ _ _ (rw (← c.words_refusal-others.ensures.answer) c.pack-packed.ensures.refused) c.pack-packed.ensures.out (untouched _ _ _ no);
+      archived = (λ none. absurd (no none));
+      alike = λ none. absurd (no none);
+    }
 
 pub bounds-written-0 : goal.bounds-written-0
 bounds-written-0 c = words_ok _ _ (sym c.words_refusal-others.ensures.answer ∙ (pack_ok c.pack-packed.ensures.refused c.if-refusal-ne0.false).rest)
@@ -26,4 +31,9 @@ returns c =
     let written = c.args.written.now in
     let filled = rw none at c.pack-packed.ensures.out in
     let first = number_first log is none written enough in
-    let archived = c.pack-packed.ensures.archived none in record { left = leaves_both_by _ _ _ _ (sym none ∙ rw (← c.words_refusal-others.ensures.answer) c.pack-packed.ensures.refused) filled (number_stored log is none written enough); archived = (λ _. rw first archived); alike = λ _. archived_alike _ _ may.accepted (rw first archived) }
+    let archived = c.pack-packed.ensures.archived none in
+    record {
+      left = leaves_both_by _ _ _ _ (sym none ∙ rw (← c.words_refusal-others.ensures.answer) c.pack-packed.ensures.refused) filled (number_stored log is none written enough);
+      archived = (λ _. rw first archived);
+      alike = λ _. archived_alike _ _ may.accepted (rw first archived);
+    }

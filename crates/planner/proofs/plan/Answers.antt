@@ -11,7 +11,14 @@ pub returns-then-refusal-ne0 : goal.returns-then-refusal-ne0
 returns-then-refusal-ne0 c =
     let called = c.plan-found.ensures in
     let no = c.if-refusal-ne0.true in
-    let answer = rw c.words_refusal-others.ensures.answer at called.refused in record { left = leaves_both_by _ _ _ _ answer called.words (untouched _ _ _ no); kept = called.kept; floor = (λ none. absurd (no none)); shown = (λ none. absurd (no none)); before = λ same. as_before _ _ _ _ _ _ _ _ _ _ answer (untouched _ _ _ no) same }
+    let answer = rw c.words_refusal-others.ensures.answer at called.refused in
+    record {
+      left = leaves_both_by _ _ _ _ answer called.words (untouched _ _ _ no);
+      kept = called.kept;
+      floor = (λ none. absurd (no none));
+      shown = (λ none. absurd (no none));
+      before = λ same. as_before _ _ _ _ _ _ _ _ _ _ answer (untouched _ _ _ no) same;
+    }
 
 pub write_plan-requires : goal.write_plan-requires
 write_plan-requires c =
@@ -26,4 +33,11 @@ returns c =
     let found = rw (none) at called.answer in
     let words = rw (none) at called.words in
     let answer = sym none ∙ (rw c.words_refusal-others.ensures.answer at called.refused) in
-    let totals = put_found plan_totals _ _ _ _ found c.write_plan.ensures.totals in record { left = leaves_both_by _ _ _ _ answer words totals; kept = (λ no. absurd (no refl)); floor = (λ _. called.floor none); shown = (λ _. called.shown none); before = λ same. as_before _ _ _ _ _ _ _ _ _ _ answer totals same }
+    let totals = put_found plan_totals _ _ _ _ found c.write_plan.ensures.totals in
+    record {
+      left = leaves_both_by _ _ _ _ answer words totals;
+      kept = (λ no. absurd (no refl));
+      floor = (λ _. called.floor none);
+      shown = (λ _. called.shown none);
+      before = λ same. as_before _ _ _ _ _ _ _ _ _ _ answer totals same;
+    }

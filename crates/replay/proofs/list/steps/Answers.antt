@@ -11,8 +11,10 @@ use Rattle.replay.proofs.list.steps.Goals as goal
 pub returns-then-refusal-ne0 : goal.returns-then-refusal-ne0
 returns-then-refusal-ne0 c =
     let no = c.if-refusal-ne0.true in
-    let answer = rw (← c.words_refusal-others.ensures.answer) c.steps_refusal-refusal.ensures.answer in
-    record { left = leaves_both_by _ _ _ _ answer (untouched _ _ _ no) (untouched _ _ _ no) }
+    record {
+      left = leaves_both_by _ _ _ _ (rw (← c.words_refusal-others.ensures.answer) c.steps_refusal-refusal.ensures.answer)
+          (untouched _ _ _ no) (untouched _ _ _ no);
+    }
 
 pub advance_each-requires : goal.advance_each-requires
 advance_each-requires c =

@@ -1,6 +1,6 @@
 -- What is read so far fits the buffer, and each turn leaves fewer bytes to read.
 use Rattle.std.proofs.Common.{length, ◌-◌, ◌≤◌}
-use Rattle.plan.proofs.read_full.Given as goal
+use Rattle.plan_text.proofs.input.read_full.Given as goal
 
 abbrev pub invariant-loop-done : goal.invariant-loop-done
 invariant-loop-done g l = l.done ≤ length l.buffer
