@@ -12,9 +12,6 @@ ghost use Rattle.interval_blocks.specs.Inner.Row.{Row};
 
 use intervals::{EventIndex, IntervalNumber};
 
-// The largest b: a block then has every event of a worker.
-pub const MOST_BITS: u32 = 16;
-
 // How many blocks of 2^b events worker w has: the last one begins at or before its last event.
 #[tactic(auto, using(crate::proofs::BlockLaws::block_laws), unfolding(crate::specs::Inner::Blocks::blocks_of))]
 fn blocks_of(log: &[u8], b: u32, w: usize) -> usize

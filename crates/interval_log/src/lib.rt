@@ -187,9 +187,11 @@ fn write_packed(log: &[u8], size: usize, out: &mut [u8])
     requires { Space log.now size (length out.old) }
     ensures out { out.new ≡ onto (packed (interval_log (workers_of log.now))) out.old }
 {
-    let b = (0..interval_blocks::MOST_BITS)
-        .find(|&b| interval_blocks::all_blocks(log, b) <= PLACES)
-        .unwrap_or(interval_blocks::MOST_BITS);
+    let mut b: u32 = 0;
+    // A while: a find over 0..16 becomes code with a copy of the count for each b.
+    while PLACES < interval_blocks::all_blocks(log, b) {
+        b += 1;
+    }
     write_with(log, b, size, out);
 }
 
