@@ -56,7 +56,7 @@ module _ (log : Given) (accepted : log.refusal ≡ 0) (words workers lent into :
       let count = done_length step_words width log.workers words workers lent into (step_wide log.workers words lent) j positions steps is in
       let put = part_stored done into (answer ∷ next) (j * width) (j * width + width) count (omega arith) in
       let last : (done ++ (answer ∷ next)) ++ drop (j * width + width) into
-          ≡ (done ++ (machine_answer log.workers words positions w ∷ machine_moved log.workers words positions w)) ++ drop (j * width + width) into = rw (told, machine) in
+      ≡ (done ++ (machine_answer log.workers words positions w ∷ machine_moved log.workers words positions w)) ++ drop (j * width + width) into = rw (told, machine) in
       storing_more step_words width log.workers words workers lent into (step_wide log.workers words lent) j positions steps is h next _ machine
       (ap (λ (l : List ℕ). put_mid (j * width) (j * width + width - j * width) l (answer ∷ next)) is.front ∙ put ∙ last)
       (same_len_mid (j * width) (j * width + width - j * width) steps (answer ∷ next)
