@@ -1,4 +1,4 @@
-// The tests 7 to 11 of a log's records, by their numbers.
+// The tests 7 to 11 of a log's records.
 #![tactic(auto)]
 
 ghost use Rattle.std.specs.Prelude.{◌≡◌, ◌<◌};
@@ -9,7 +9,7 @@ ghost use Rattle.record_tests.specs.Records.{checkpoint_fault, record_fault, rec
 
 use records::{Checkpoint, Event};
 
-// The tests 7 to 11: four look at the events, the last one at the checkpoints.
+// The tests 7 to 11, in this order: four look at the events, the last one at the checkpoints.
 #[derive(Clone, Copy)]
 pub enum RecordTest {
     Fields,

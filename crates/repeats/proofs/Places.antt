@@ -153,54 +153,33 @@ module _ (log : Workers) where
         less = ltb-true place high (and_true_right (leb low place) (ltb place high) range);
       }
 
-  -- a range with no number, and one that begins later
-  pub within_none : (low high : ℕ) → high ≤ low → some_again_within log low high ≡ false
-  within_none low high h = never_true _ (λ e. let f = some_found low high e in let no : ⊥ = omega (arith, f.least, f.less) in no)
+  -- a range with no number, and two ranges that follow each other
+  pub within_none : (low : ℕ) → some_again_within log low low ≡ false
+  within_none low = never_true _ (λ e. let f = some_found low low e in let no : ⊥ = omega (arith, f.least, f.less) in no)
 
-  pub within_later : (low mid high : ℕ) → low ≤ mid → some_again_within log mid high ≡ true → some_again_within log low high ≡ true
-  within_later low mid high h e =
-      let f = some_found mid high e in
-      found_some low high (record { w = f.w; l = f.l; within = f.within; repeated = f.repeated; least = omega (arith, f.least); less = f.less })
+  pub within_more : (low mid high : ℕ) → some_again_within log low mid ≡ false → some_again_within log mid high ≡ false → some_again_within log low high ≡ false
+  within_more low mid high first rest =
+      never_true _
+      (λ e.
+      let f = some_found low high e in
+      ⊎_elim
+      (λ early. false≢true (sym first ∙ found_some low mid (record { w = f.w; l = f.l; within = f.within; repeated = f.repeated; least = f.least; less = early })))
+      (λ late. false≢true (sym rest ∙ found_some mid high (record { w = f.w; l = f.l; within = f.within; repeated = f.repeated; least = late; less = f.less })))
+      (lt_or_le (place_of log (event_of log f.w (f.l + 1))) mid))
 
   -- what is found in a range is found
-  within_some : (low high : ℕ) → some_again_within log low high ≡ true → some_again log ≡ true
+  pub within_some : (low high : ℕ) → some_again_within log low high ≡ true → some_again log ≡ true
   within_some low high e = let f = some_found low high e in some_from log f.w f.l f.within f.repeated
 
-  pub within_unfound : (low high : ℕ) → some_again log ≡ false → some_again_within log low high ≡ false
-  within_unfound low high none = never_true _ (λ e. false≢true (sym none ∙ within_some low high e))
-
-  module _ (messages : Messages log) where
-    -- every number is below that of all events
-    found_below : (low high : ℕ) (f : Found low high) → place_of log (event_of log f.w (f.l + 1)) < all_events log
-    found_below low high f = place_below messages f.w f.l f.within (again_by log f.w f.l f.repeated).2.second
-
-    -- where none is found in the rest, the first part of a range decides
-    pub within_first : (low mid : ℕ) → some_again_within log mid (all_events log) ≡ false → some_again_within log low mid ≡ some_again_within log low (all_events log)
-    within_first low mid none = both_ways _ _ there back
-      where
-        there : some_again_within log low mid ≡ true → some_again_within log low (all_events log) ≡ true
-        there e =
-            let f = some_found low mid e in
-            found_some low (all_events log) (record { w = f.w; l = f.l; within = f.within; repeated = f.repeated; least = f.least; less = found_below low mid f })
-
-        back : some_again_within log low (all_events log) ≡ true → some_again_within log low mid ≡ true
-        back e =
-            let f = some_found low (all_events log) e in
-            ⊎_elim
-            (λ early. found_some low mid (record { w = f.w; l = f.l; within = f.within; repeated = f.repeated; least = f.least; less = early }))
-            (λ late.
-            absurd (false≢true (sym none ∙ found_some mid (all_events log) (record { w = f.w; l = f.l; within = f.within; repeated = f.repeated; least = late; less = f.less }))))
-            (lt_or_le (place_of log (event_of log f.w (f.l + 1))) mid)
-
-    -- the range of all numbers
-    pub within_all : some_again_within log 0 (all_events log) ≡ some_again log
-    within_all = both_ways _ _ (within_some 0 (all_events log)) back
-      where
-        back : some_again log ≡ true → some_again_within log 0 (all_events log) ≡ true
-        back e =
-            let found = some_by log e in
-            let below = place_below messages found.0 found.1 found.2 (again_by log found.0 found.1 found.3).2.second in
-            found_some 0 (all_events log) (record { w = found.0; l = found.1; within = found.2; repeated = found.3; least = omega arith; less = below })
+  -- a range of all numbers
+  pub within_all : Messages log → (high : ℕ) → all_events log ≤ high → some_again_within log 0 high ≡ some_again log
+  within_all messages high all = both_ways _ _ (within_some 0 high) back
+    where
+      back : some_again log ≡ true → some_again_within log 0 high ≡ true
+      back e =
+          let found = some_by log e in
+          let below = place_below messages found.0 found.1 found.2 (again_by log found.0 found.1 found.3).2.second in
+          found_some 0 high (record { w = found.0; l = found.1; within = found.2; repeated = found.3; least = omega arith; less = omega arith })
 
 -- ---- the numbers fit
 pub places_few : (s : List ℕ) → layout_refusal s ≡ 0 → (v : ℕ) → v ≤ worker_count (workers_of s) → first_place (workers_of s) v ≤ max_workers * max_events

@@ -2,15 +2,14 @@
 // none; else the receives are gone through with a table of bits, one for each event that may be a send.
 #![tactic(auto)]
 
-ghost use Rattle.std.specs.Prelude.{◌≡◌, false, ◌&&◌, ◌+◌, ◌*◌, ◌<◌, ◌≤◌, eqb, length};
-ghost use Rattle.records.specs.Forms.{receives_once};
+ghost use Rattle.std.specs.Prelude.{◌≡◌, false, ◌+◌, ◌*◌, ◌<◌, ◌≤◌, eqb, length};
 ghost use Rattle.event_log.specs.Header.{layout_refusal};
 ghost use Rattle.event_log.specs.Model.{worker_count};
 ghost use Rattle.records.specs.Event.{received};
-ghost use Rattle.event_log.specs.Layout.{form_field, workers_of, log_of};
+ghost use Rattle.event_log.specs.Layout.{workers_of, log_of};
 ghost use Rattle.repeats.specs.Repeats.{repeat_fault};
 ghost use Rattle.repeats.specs.Inner.Again.{Messages, worker_again, some_again};
-ghost use Rattle.repeats.specs.Inner.Table.{word_bits, few_words, many_words, table_bits, bit_at, marked, all_events, place_of};
+ghost use Rattle.repeats.specs.Inner.Table.{word_bits, many_words, table_bits, bit_at, marked, all_events, place_of};
 ghost use Rattle.repeats.specs.Inner.Table.{table_after, found_marked, Numbered, Marks, worker_again_within, some_again_within};
 
 use records::Event;
@@ -144,8 +143,8 @@ const FEW_WORDS: usize = 256;
 
 const MANY_WORDS: usize = 16384;
 
-// Whether a send is received twice, of those that have a bit in a table of WORDS words from number `low` on. It is no part of its callers, so a
-// log that needs no large table does not have it in its frames.
+// Whether a send is received twice, of those that have a bit in a table of WORDS words from number `low` on. The compiler makes it no part of its
+// callers, so a log that needs no large table does not have it in its frames.
 #[inline(never)]
 fn repeat_within<const WORDS: usize>(log: &[u8], firsts: &[u32], low: usize) -> bool
     requires { (layout_refusal log.now ≡ 0) × Messages (workers_of log.now) × Numbered (workers_of log.now) firsts.now × (WORDS ≤ many_words) }
@@ -155,33 +154,25 @@ fn repeat_within<const WORDS: usize>(log: &[u8], firsts: &[u32], low: usize) -> 
     mark_all(log, firsts, low, &mut table)
 }
 
-// Whether the log's form has a send received at most once, and one from number `low` on is received twice. Where the large table has no bit
-// for all of them, they are taken in groups, the last group first. A function that calls itself is not made a part of its callers by the
-// compiler: so the pass for 7 to 10 keeps its registers, and a log that needs no large table does not have it in its frames.
-fn repeats_from(log: &[u8], low: usize) -> bool
-    requires { (layout_refusal log.now ≡ 0) × Messages (workers_of log.now) }
-    ensures answer { result ≡ (receives_once (form_field log.now)
-        && some_again_within (workers_of log.now) low (all_events (workers_of log.now))) }
-{
-    if !event_log::receives_once(log) {
-        return false;
-    }
-    let mut firsts = [0u32; event_log::MAX_WORKERS];
-    let events = number_events(log, &mut firsts);
-    if events <= low || !some_falls(log) {
-        return false;
-    }
-    if events <= WORD_BITS * FEW_WORDS {
-        return repeat_within::<FEW_WORDS>(log, &firsts, low);
-    }
-    repeats_from(log, low + WORD_BITS * MANY_WORDS)
-        || repeat_within::<MANY_WORDS>(log, &firsts, low)
-}
-
-// Test 24: whether the log is of the form in which a send is received at most once, and has two receives of one send.
+// Test 24: whether the log is of the form in which a send is received at most once, and has two receives of one send. Where the large table has
+// no bit for all events, they are taken in groups. The compiler makes this no part of its callers, so the pass for 7 to 10 keeps its registers.
+#[inline(never)]
 pub fn repeat_fault(log: &[u8]) -> bool
     requires { (layout_refusal log.now ≡ 0) × Messages (workers_of log.now) }
     ensures answer { result ≡ repeat_fault (log_of log.now) }
 {
-    repeats_from(log, 0)
+    if !event_log::receives_once(log) || !some_falls(log) {
+        return false;
+    }
+    let mut firsts = [0u32; event_log::MAX_WORKERS];
+    let events = number_events(log, &mut firsts);
+    if events <= WORD_BITS * FEW_WORDS {
+        return repeat_within::<FEW_WORDS>(log, &firsts, 0);
+    }
+    for low in (0..events).step_by(WORD_BITS * MANY_WORDS) {
+        if repeat_within::<MANY_WORDS>(log, &firsts, low) {
+            return true;
+        }
+    }
+    false
 }
