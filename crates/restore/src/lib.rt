@@ -24,9 +24,7 @@ fn spread(words: &mut [u32], n: usize)
     requires { length words.old ≡ 3 * n }
     ensures words { tabulate (cut_in words.new) n ≡ take n words.old }
 {
-    let mut w = n;
-    while w > 0 {
-        w -= 1;
+    for w in (0..n).rev() {
         words[3 * w] = words[w];
     }
 }

@@ -15,9 +15,12 @@ use Rattle.restore_plan.proofs.Shown.{shown_left}
 use Rattle.restore_plan.proofs.PlanTable.{plan_ok}
 use Rattle.restore.proofs.plan.Goals as goal
 
-pub returns-then-refusal-ne0 : goal.returns-then-refusal-ne0
+pub returns-then-refusal-ne0-clause-answer : goal.returns-then-refusal-ne0-clause-answer
 unfolding plan_answer
-returns-then-refusal-ne0 c = record { refused = c.plan_refusal-refusal.ensures.answer; answer = rw (ne_eqb _ _ c.if-refusal-ne0.true); words = untouched _ _ _ c.if-refusal-ne0.true; kept = (λ no. refl); floor = (λ none. absurd (c.if-refusal-ne0.true none)); shown = λ none. absurd (c.if-refusal-ne0.true none) }
+returns-then-refusal-ne0-clause-answer c = rw (ne_eqb _ _ c.if-refusal-ne0.true)
+
+pub returns-then-refusal-ne0-clause-words : goal.returns-then-refusal-ne0-clause-words
+returns-then-refusal-ne0-clause-words c = untouched _ _ _ c.if-refusal-ne0.true
 
 pub worker_count-n-requires : goal.worker_count-n-requires
 worker_count-n-requires c = accepted_layout _ (plan_ok c.plan_refusal-refusal.ensures.answer c.if-refusal-ne0.false).search.line.breakpoint.accepted
@@ -46,14 +49,27 @@ plan_found-requires c =
       passed.loaded,
     )
 
-pub returns : goal.returns
+pub returns-clause-refused : goal.returns-clause-refused
+unfolding found_plan
+returns-clause-refused c = rw c.plan_found.ensures.answer (sym c.if-refusal-ne0.false ∙ c.plan_refusal-refusal.ensures.answer)
+
+pub returns-clause-answer : goal.returns-clause-answer
 unfolding plan_answer found_plan
-returns c =
-    let found = c.plan_refusal-refusal.ensures.answer in
-    let none = c.if-refusal-ne0.false in
-    let size = c.worker_count-n in
-    let answer = c.plan_found.ensures in
-    let point = (plan_ok found none).search.line.breakpoint in
-    let given = c.args in
-    let floor = floor_left _ (well_formed _ point.accepted) _ _ point.event (3 * size.result) _ given.words.now answer.words in
-    let shown = shown_left _ (3 * size.result) _ _ given.words.now answer.words in record { refused = rw answer.answer (sym none ∙ found); answer = rw answer.answer (refl); words = rw answer.answer (rw (answer.words, size.ensures.answer) (written _ _ _ _ refl (plan_long _ _))); kept = rw answer.answer ((λ no. absurd (no refl))); floor = rw answer.answer ((λ _. floor)); shown = rw answer.answer (λ _. shown) }
+returns-clause-answer c = rw c.plan_found.ensures.answer
+
+pub returns-clause-words : goal.returns-clause-words
+unfolding found_plan
+returns-clause-words c =
+    rw (c.plan_found.ensures.answer, c.plan_found.ensures.words, c.worker_count-n.ensures.answer) (written _ _ _ _ refl (plan_long _ _))
+
+pub returns-clause-kept : goal.returns-clause-kept
+unfolding found_plan
+returns-clause-kept c = rw c.plan_found.ensures.answer (λ no. absurd (no refl))
+
+pub returns-clause-floor : goal.returns-clause-floor
+returns-clause-floor c _ =
+    let point = (plan_ok c.plan_refusal-refusal.ensures.answer c.if-refusal-ne0.false).search.line.breakpoint in
+    floor_left _ (well_formed _ point.accepted) _ _ point.event (3 * c.worker_count-n.result) _ c.args.words.now c.plan_found.ensures.words
+
+pub returns-clause-shown : goal.returns-clause-shown
+returns-clause-shown c _ = shown_left _ (3 * c.worker_count-n.result) _ _ c.args.words.now c.plan_found.ensures.words

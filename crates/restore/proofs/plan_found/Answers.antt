@@ -16,10 +16,10 @@ units_of-requires c =
     let given = c.requires in
     (lower_held _ _ _ given.0 given.4 _ _ c.plan_words-cut.ensures.words refl, given.5)
 
-pub returns : goal.returns
+pub returns-clause-answer : goal.returns-clause-answer
 unfolding found_plan
-returns c =
-    let given = c.requires in
+returns-clause-answer c =
     let words = c.plan_words-cut.ensures in
-    let is_cut = lower_is_cut _ _ _ given.0 given.4 in
-    let starts = plan_starts_in _ _ (well_formed _ given.0) is_cut in record { answer = rw (words.answer, c.events_of.ensures.answer, c.units_of.ensures.answer, words.words, plan_cuts _ _ is_cut, starts); words = words.words }
+    let is_cut = lower_is_cut _ _ _ c.requires.0 c.requires.4 in
+    let starts = plan_starts_in _ _ (well_formed _ c.requires.0) is_cut in
+    rw (words.answer, c.events_of.ensures.answer, c.units_of.ensures.answer, words.words, plan_cuts _ _ is_cut, starts)

@@ -3,6 +3,3 @@ use Rattle.restore.proofs.spread.Given as goal
 
 abbrev pub invariant-loop-w : goal.invariant-loop-w
 invariant-loop-w l = Spread l.initial.words l.words l.n l.w
-
-abbrev pub decreases-loop-w : goal.decreases-loop-w
-decreases-loop-w l = l.w

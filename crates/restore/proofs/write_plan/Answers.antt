@@ -1,19 +1,8 @@
 -- `restore::write_plan` meets its contract: the four stores put visits, events, units and workers word in the first four words, in this
 -- order, and leave the others (`stored_words`). Assumes nothing.
-use native.Mathlib.Omega.{arith}
-use lib.ListN.{length-set}
 use Rattle.lent.proofs.Lent.{store_each, stored_words}
 use Rattle.restore_plan.specs.Calls.{plan_totals}
 use Rattle.restore.proofs.write_plan.Goals as goal
-
-pub bounds-totals-1 : goal.bounds-totals-1
-bounds-totals-1 c = simp length-set (omega (arith, c.requires))
-
-pub bounds-totals-2 : goal.bounds-totals-2
-bounds-totals-2 c = simp length-set (omega (arith, c.requires))
-
-pub bounds-totals-3 : goal.bounds-totals-3
-bounds-totals-3 c = simp length-set (omega (arith, c.requires))
 
 pub returns : goal.returns
 unfolding plan_totals store_each
