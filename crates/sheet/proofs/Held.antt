@@ -1,10 +1,13 @@
 -- What a plan adds to word j of the sheet, from its plan words. Assumes nothing.
 use mathlib.Core.Path.{◌≡◌, sym, ◌∙◌}
-use mathlib.Core.Logic.{◌≢◌}
+use mathlib.Core.Logic.{◌≢◌, ⊎_elim}
 use mathlib.Core.List.{List}
 use Prim.Native.Nat.{ℕ, ◌-◌, ◌*◌, ◌/◌, ◌%◌, ◌<◌}
 use native.Mathlib.Omega.{arith}
 use borrow.Author.Tests.{lt-ltb, le-ltb}
+use lib.Dec.{ltb}
+use Rattle.std.specs.Int.{from_bool}
+use Rattle.ranges.proofs.Order.{lt_or_le}
 use Rattle.lent.specs.Lent.{at, word_of}
 use Rattle.event_log.specs.Model.{Workers, worker_count}
 use Rattle.unit_table.specs.Table.{Table}
@@ -33,19 +36,17 @@ module _ (table : Table) (log : Workers) (words : List ℕ) (j : ℕ) (h : j < 3
   unfolding replayed
   held_events r = is ∙ sym (adds_events table log (cuts_in log words) (starts_in log words) j r ∙ rw (cut_at, start_at))
 
-  -- the plan does not count where it replays none of them, and counts where it replays one
+  -- the plan counts where it replays one of them
   module _ (units : j % 3 ≢ 1) (other : j % 3 ≢ 0) where
-    column : j % 3 ≡ 2
-    column = omega (arith, units, other)
+    plans : word_of (ltb (start_in words (j / 3)) (cut_in words (j / 3))) ≡ adds
+    plans =
+        let column : j % 3 ≡ 2 = omega (arith, units, other) in
+        sym (adds_plans table log (cuts_in log words) (starts_in log words) j column ∙ rw (cut_at, start_at))
 
-    pub held_none : events ≡ 0 → 0 ≡ adds
+    pub held_plans : from_bool (ltb 0 events) ≡ adds
     unfolding word_of
-    held_none zero =
-        sym (adds_plans table log (cuts_in log words) (starts_in log words) j column
-        ∙ rw (cut_at, start_at, le-ltb (start_in words (j / 3)) (cut_in words (j / 3)) (omega (arith, is, zero))))
-
-    pub held_some : events ≢ 0 → 1 ≡ adds
-    unfolding word_of
-    held_some some =
-        sym (adds_plans table log (cuts_in log words) (starts_in log words) j column
-        ∙ rw (cut_at, start_at, lt-ltb (start_in words (j / 3)) (cut_in words (j / 3)) (omega (arith, is, some))))
+    held_plans =
+        ⊎_elim
+        (λ l. rw (lt-ltb 0 events l) (rw (lt-ltb (start_in words (j / 3)) (cut_in words (j / 3)) (omega (arith, is))) at plans))
+        (λ l. rw (le-ltb 0 events l) (rw (le-ltb (start_in words (j / 3)) (cut_in words (j / 3)) (omega (arith, is))) at plans))
+        (lt_or_le 0 events)

@@ -22,6 +22,11 @@ const COLUMNS: usize = 3;
 
 const SCRATCH_ROWS: usize = 5;
 
+// The first columns of the sheet; the third one has the plans.
+const EVENTS: usize = 0;
+
+const UNITS: usize = 1;
+
 // What the plan in these words adds to word j of the sheet.
 fn plan_adds(log: &[u8], table: &[u32], words: &[u32], j: usize) -> u64
     requires { ((log_refusal log.now ≡ 0) × IsHeld (workers_of log.now) words.now) × (j < 3 * worker_count (workers_of log.now)) × (table_refusal table.now ≡ 0) }
@@ -30,17 +35,14 @@ fn plan_adds(log: &[u8], table: &[u32], words: &[u32], j: usize) -> u64
 {
     let w = j / COLUMNS;
     let column = j % COLUMNS;
-    if column == 1 {
+    if column == UNITS {
         return cost::worker_units(log, table, words, w);
     }
     let events = cost::worker_events(words, w);
-    if column == 0 {
-        return events as u64;
+    if column == EVENTS {
+        return u64::from(events);
     }
-    if events == 0 {
-        return 0;
-    }
-    1
+    u64::from(events > 0)
 }
 
 // Adds the plan in these words to the sheet.
@@ -50,11 +52,8 @@ fn add_plan(log: &[u8], table: &[u32], words: &[u32], sheet: &mut [u64])
     ensures sheet { sheet.new ≡ tabulate (added_at (table_of table.now) (workers_of log.now) words.now sheet.old)
         (length sheet.old) }
 {
-    let mut j: usize = 0;
-    while j < sheet.len() {
-        let more = plan_adds(log, table, words, j);
-        sheet[j] = sheet[j] + more;
-        j += 1;
+    for (j, word) in sheet.iter_mut().enumerate() {
+        *word += plan_adds(log, table, words, j);
     }
 }
 
@@ -94,10 +93,8 @@ fn add_list(
     ensures sheet { sheet.new ≡ sheet_words (table_of table.now) (workers_of log.now) list.now }
 {
     let all = breakpoints::count(list);
-    let mut k: usize = 0;
-    while k < all {
+    for k in 0..all {
         add_breakpoint(log, list, k, table, words, scratch, sheet);
-        k += 1;
     }
 }
 
@@ -117,7 +114,7 @@ fn sum_list(
 {
     let n = event_log::worker_count(log);
     let all = COLUMNS * n;
-    lent::clear_wide(&mut sheet[..all]);
+    sheet[..all].fill(0);
     add_list(
         log,
         list,

@@ -9,9 +9,8 @@ use Rattle.sheet.proofs.Allowed.{sheet_ok}
 use Rattle.sheet.proofs.Summed.{summed_left}
 use Rattle.sheet.proofs.sheet.Goals as goal
 
-pub returns-then-refusal-ne0 : goal.returns-then-refusal-ne0
-returns-then-refusal-ne0 c =
-    let no = c.if-refusal-ne0.true in record { left = leaves_by _ _ c.sheet_refusal-refusal.ensures.answer (untouched _ _ _ no); kept = (λ _. refl); summed = λ none. absurd (no none) }
+pub returns-then-refusal-ne0-clause-left : goal.returns-then-refusal-ne0-clause-left
+returns-then-refusal-ne0-clause-left c = leaves_by _ _ c.sheet_refusal-refusal.ensures.answer (untouched _ _ _ c.if-refusal-ne0.true)
 
 pub sum_list-requires : goal.sum_list-requires
 sum_list-requires c =
@@ -19,9 +18,11 @@ sum_list-requires c =
     let few = (well_formed _ lent.summable.accepted).few in
     (lent.summable, omega (arith, few), omega (arith, lent.room), lent.enough)
 
-pub returns : goal.returns
-returns c =
-    let none = c.if-refusal-ne0.false in
-    let found = c.sheet_refusal-refusal.ensures.answer in
-    let lent = sheet_ok found none in
-    let left = c.sum_list.ensures.sheet in record { left = leaves_by _ _ (sym none ∙ found) (left ∙ put 0 _ _ refl); kept = (λ no. absurd (no refl)); summed = λ _. summed_left _ _ _ lent.summable _ _ left }
+pub returns-clause-left : goal.returns-clause-left
+returns-clause-left c =
+    leaves_by _ _ (sym c.if-refusal-ne0.false ∙ c.sheet_refusal-refusal.ensures.answer) (c.sum_list.ensures.sheet ∙ put 0 _ _ refl)
+
+pub returns-clause-summed : goal.returns-clause-summed
+returns-clause-summed c _ =
+    let lent = sheet_ok c.sheet_refusal-refusal.ensures.answer c.if-refusal-ne0.false in
+    summed_left _ _ _ lent.summable _ _ c.sum_list.ensures.sheet
