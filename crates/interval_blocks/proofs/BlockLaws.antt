@@ -17,6 +17,7 @@ use Rattle.event_log.specs.Header.{layout_refusal}
 use Rattle.event_log.specs.Limits.{max_workers, max_events}
 use Rattle.event_log.specs.Layout.{workers_of}
 use Rattle.event_log.proofs.Read.{workers_few, count_field}
+use Rattle.accept.proofs.Accepted.{accepted_layout}
 use Rattle.intervals.specs.declared.EventIndex.{EventIndex}
 use Rattle.intervals.specs.declared.IntervalNumber.{IntervalNumber}
 use Rattle.intervals.specs.Interval.{index, interval_at}
@@ -154,4 +155,4 @@ module _ (log : Workers) (b : ℕ) (firsts table : List ℕ) (blocks : Blocks lo
 -- what the code asks of the numbers of blocks, of the loops that write them, and of a block in the table
 pub ruleset number_laws = (shr_le, number_few, blocks_few, end_few, first_none, first_more, first_few, blocks_before)
 
-pub ruleset block_laws = (number_laws, interval_none, number_is, row_none, row_more, filled_none, filled_more, place_within, place_holds)
+pub ruleset block_laws = (accepted_layout, number_laws, interval_none, number_is, row_none, row_more, filled_none, filled_more, place_within, place_holds)

@@ -4,6 +4,7 @@
 
 ghost use Rattle.std.specs.Prelude.{◌≡◌, ◌+◌, ◌*◌, ◌^◌, ◌<◌, ◌≤◌, min, length};
 ghost use Rattle.event_log.specs.Header.{layout_refusal};
+ghost use Rattle.accept.specs.Refusal.{log_refusal};
 ghost use Rattle.event_log.specs.Model.{worker_count, event_count};
 ghost use Rattle.event_log.specs.Layout.{workers_of};
 ghost use Rattle.intervals.specs.Interval.{index, interval_at};
@@ -59,38 +60,54 @@ fn fill_row(log: &[u8], b: u32, w: usize, first: usize, table: &mut [u16])
     }
 }
 
-// Fills the table with the rows of all workers, one behind the other, and `firsts` with the place of the first block of each. What is past
-// them is free.
-pub fn fill(log: &[u8], b: u32, firsts: &mut [u32], table: &mut [u16])
-    requires { (layout_refusal log.now ≡ 0) × (b ≤ most_bits) × (worker_count (workers_of log.now) ≤ length firsts.old)
-        × (first_block (workers_of log.now) b (worker_count (workers_of log.now)) ≤ length table.old) }
-    ensures blocks { Blocks (workers_of log.now) b firsts.new table.new }
-{
-    let n = event_log::worker_count(log);
-    let mut first: usize = 0;
-    for w in 0..n {
-        firsts[w] = first as u32;
-        fill_row(log, b, w, first, table);
-        first += blocks_of(log, b, w);
-    }
+// An accepted log with a table of the intervals at the starts of its blocks of 2^b events: the rows of all workers, one behind the other, and in
+// `firsts` the place of the first block of each.
+#[derive(Clone, Copy)]
+pub struct IntervalTable<'a> {
+    pub log: &'a [u8],
+    b: u32,
+    firsts: &'a [u32],
+    table: &'a [u16],
+    pub ghost accepted: { log_refusal log.now ≡ 0 },
+    ghost blocks: { Blocks (workers_of log.now) b firsts.now table.now },
 }
 
-// The interval of worker w after its event x: that of the block, and the receives behind it.
-pub fn interval_of(
-    log: &[u8],
-    b: u32,
-    firsts: &[u32],
-    table: &[u16],
-    w: usize,
-    x: EventIndex,
-) -> IntervalNumber
-    requires { (layout_refusal log.now ≡ 0) × Blocks (workers_of log.now) b firsts.now table.now
-        × (w < worker_count (workers_of log.now)) × (x.0 ≤ event_count (workers_of log.now) w) }
-    ensures answer { result ≡ interval_at (workers_of log.now) w x }
-{
-    let block = x.0 >> b;
-    let place = firsts[w] as usize + block as usize;
-    let number = IntervalNumber(table[place] as u32);
-    let start = EventIndex(block << b);
-    intervals::advance(log, w, start, number, x)
+impl<'a> IntervalTable<'a> {
+    // The table of a log, filled in words that are lent for it. What is past its rows is free.
+    pub fn new(
+        log: &'a [u8],
+        b: u32,
+        firsts: &'a mut [u32],
+        table: &'a mut [u16],
+    ) -> IntervalTable<'a>
+        requires { (log_refusal log.now ≡ 0) × (b ≤ most_bits) × (worker_count (workers_of log.now) ≤ length firsts.old)
+            × (first_block (workers_of log.now) b (worker_count (workers_of log.now)) ≤ length table.old) }
+        ensures log { result.log.now ≡ log.now }
+    {
+        let n = event_log::worker_count(log);
+        let mut first: usize = 0;
+        for w in 0..n {
+            firsts[w] = first as u32;
+            fill_row(log, b, w, first, table);
+            first += blocks_of(log, b, w);
+        }
+        IntervalTable {
+            log,
+            b,
+            firsts,
+            table,
+        }
+    }
+
+    // The interval of worker w after its event x: that of the block, and the receives behind it.
+    pub fn interval_of(&self, w: usize, x: EventIndex) -> IntervalNumber
+        requires { (w < worker_count (workers_of self.now.log.now)) × (x.0 ≤ event_count (workers_of self.now.log.now) w) }
+        ensures answer { result ≡ interval_at (workers_of self.now.log.now) w x }
+    {
+        let block = x.0 >> self.b;
+        let place = self.firsts[w] as usize + block as usize;
+        let number = IntervalNumber(self.table[place] as u32);
+        let start = EventIndex(block << self.b);
+        intervals::advance(self.log, w, start, number, x)
+    }
 }

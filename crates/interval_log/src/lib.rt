@@ -16,8 +16,9 @@ ghost use Rattle.intervals.specs.Interval.{index, interval_at, interval_workers,
 ghost use Rattle.interval_refusals.specs.Calls.{intervals_refusal};
 ghost use Rattle.intervals.specs.Converted.{Converted};
 ghost use Rattle.interval_blocks.specs.Inner.Blocks.{most_bits, first_block};
-ghost use Rattle.interval_log.specs.Inner.Space.{table_places, naming, NamesEvent, Tabled, Space};
+ghost use Rattle.interval_log.specs.Inner.Space.{table_places, naming, NamesEvent, Space};
 
+use interval_blocks::IntervalTable;
 use intervals::{EventIndex, IntervalNumber};
 use pack::Packed;
 use records::Event;
@@ -44,29 +45,22 @@ fn write_checkpoint(number: IntervalNumber, identifier: u32, out: &mut [u8], at:
 }
 
 // The interval that a receive names: that of its sender before the send.
-fn named_interval(log: &[u8], b: u32, firsts: &[u32], table: &[u16], e: Event) -> IntervalNumber
-    requires { Tabled log.now b firsts.now table.now × NamesEvent (workers_of log.now) e }
-    ensures answer { result ≡ interval_at (workers_of log.now) e.peer (index (e.send - 1)) }
+fn named_interval(table: &IntervalTable, e: Event) -> IntervalNumber
+    requires { NamesEvent (workers_of table.now.log.now) e }
+    ensures answer { result ≡ interval_at (workers_of table.now.log.now) e.peer (index (e.send - 1)) }
 {
     let before = EventIndex(e.send - 1);
-    interval_blocks::interval_of(log, b, firsts, table, e.peer as usize, before)
+    table.interval_of(e.peer as usize, before)
 }
 
 // Writes the receives of worker w from place `at` on. Returns where they end.
-fn write_events(
-    log: &[u8],
-    b: u32,
-    firsts: &[u32],
-    table: &[u16],
-    w: usize,
-    out: &mut [u8],
-    at: usize,
-) -> usize
-    requires { Tabled log.now b firsts.now table.now × (at + 12 * event_count (interval_workers (workers_of log.now)) w ≤ length out.old) }
-    ensures answer { result ≡ at + 12 * event_count (interval_workers (workers_of log.now)) w }
-    ensures out { out.new ≡ overwrite at (join_below (event_at (interval_workers (workers_of log.now)) w)
-        (event_count (interval_workers (workers_of log.now)) w)) out.old }
+fn write_events(table: &IntervalTable, w: usize, out: &mut [u8], at: usize) -> usize
+    requires { at + 12 * event_count (interval_workers (workers_of table.now.log.now)) w ≤ length out.old }
+    ensures answer { result ≡ at + 12 * event_count (interval_workers (workers_of table.now.log.now)) w }
+    ensures out { out.new ≡ overwrite at (join_below (event_at (interval_workers (workers_of table.now.log.now)) w)
+        (event_count (interval_workers (workers_of table.now.log.now)) w)) out.old }
 {
+    let log = table.log;
     let start = event_log::event_start(log, w);
     let events = event_log::event_count(log, w) as usize;
     let mut place = at;
@@ -75,7 +69,7 @@ fn write_events(
         if !records::is_receive(e) {
             continue;
         }
-        let number = named_interval(log, b, firsts, table, e);
+        let number = named_interval(table, e);
         write_receive(e, number, out, place);
         place += records::EVENT_SIZE;
     }
@@ -83,20 +77,13 @@ fn write_events(
 }
 
 // Writes the checkpoints of worker w that are not withdrawn from place `at` on. Returns where they end.
-fn write_checkpoints(
-    log: &[u8],
-    b: u32,
-    firsts: &[u32],
-    table: &[u16],
-    w: usize,
-    out: &mut [u8],
-    at: usize,
-) -> usize
-    requires { Tabled log.now b firsts.now table.now × (at + 8 * checkpoint_count (interval_workers (workers_of log.now)) w ≤ length out.old) }
-    ensures answer { result ≡ at + 8 * checkpoint_count (interval_workers (workers_of log.now)) w }
-    ensures out { out.new ≡ overwrite at (join_below (checkpoint_at (interval_workers (workers_of log.now)) w)
-        (checkpoint_count (interval_workers (workers_of log.now)) w)) out.old }
+fn write_checkpoints(table: &IntervalTable, w: usize, out: &mut [u8], at: usize) -> usize
+    requires { at + 8 * checkpoint_count (interval_workers (workers_of table.now.log.now)) w ≤ length out.old }
+    ensures answer { result ≡ at + 8 * checkpoint_count (interval_workers (workers_of table.now.log.now)) w }
+    ensures out { out.new ≡ overwrite at (join_below (checkpoint_at (interval_workers (workers_of table.now.log.now)) w)
+        (checkpoint_count (interval_workers (workers_of table.now.log.now)) w)) out.old }
 {
+    let log = table.log;
     let count = event_log::checkpoint_count(log, w);
     let mut place = at;
     for k in 0..count {
@@ -105,7 +92,7 @@ fn write_checkpoints(
             continue;
         }
         let index = EventIndex(checkpoint.index);
-        let number = interval_blocks::interval_of(log, b, firsts, table, w, index);
+        let number = table.interval_of(w, index);
         write_checkpoint(number, checkpoint.identifier, out, place);
         place += records::CHECKPOINT_SIZE;
     }
@@ -113,50 +100,43 @@ fn write_checkpoints(
 }
 
 // Writes the sections of worker w from place `at` on. Returns where they end.
-fn write_worker(
-    log: &[u8],
-    b: u32,
-    firsts: &[u32],
-    table: &[u16],
-    w: usize,
-    out: &mut [u8],
-    at: usize,
-) -> usize
-    requires { Tabled log.now b firsts.now table.now × (at + sections_size (interval_workers (workers_of log.now)) w ≤ length out.old) }
-    ensures answer { result ≡ at + sections_size (interval_workers (workers_of log.now)) w }
-    ensures out { out.new ≡ overwrite at (sections_of (interval_workers (workers_of log.now)) w) out.old }
+fn write_worker(table: &IntervalTable, w: usize, out: &mut [u8], at: usize) -> usize
+    requires { at + sections_size (interval_workers (workers_of table.now.log.now)) w ≤ length out.old }
+    ensures answer { result ≡ at + sections_size (interval_workers (workers_of table.now.log.now)) w }
+    ensures out { out.new ≡ overwrite at (sections_of (interval_workers (workers_of table.now.log.now)) w) out.old }
 {
-    let behind = write_events(log, b, firsts, table, w, out, at);
-    write_checkpoints(log, b, firsts, table, w, out, behind)
+    let behind = write_events(table, w, out, at);
+    write_checkpoints(table, w, out, behind)
 }
 
 // Writes the sections of each worker.
 #[tactic(auto, using(crate::proofs::Kept::entry_laws))]
-fn write_sections(log: &[u8], b: u32, firsts: &[u32], table: &[u16], out: &mut [u8])
-    requires { Tabled log.now b firsts.now table.now × (packed_length (interval_workers (workers_of log.now)) ≤ length out.old) }
-    ensures out { out.new ≡ overwrite (header_of (worker_count (workers_of log.now)))
-        (join_below (sections_of (interval_workers (workers_of log.now))) (worker_count (workers_of log.now))) out.old }
+fn write_sections(table: &IntervalTable, out: &mut [u8])
+    requires { packed_length (interval_workers (workers_of table.now.log.now)) ≤ length out.old }
+    ensures out { out.new ≡ overwrite (header_of (worker_count (workers_of table.now.log.now)))
+        (join_below (sections_of (interval_workers (workers_of table.now.log.now))) (worker_count (workers_of table.now.log.now))) out.old }
 {
-    let n = event_log::worker_count(log);
+    let n = event_log::worker_count(table.log);
     let mut at = event_log::header_of(n as u32);
     for w in 0..n {
-        at = write_worker(log, b, firsts, table, w, out, at);
+        at = write_worker(table, w, out, at);
     }
 }
 
 // Writes the entry of each worker.
 #[tactic(auto, using(crate::proofs::Kept::entry_laws), unfolding(pack::specs::Packed::sections_size, pack::specs::Packed::entry_of, pack::specs::Packed::numbers_of))]
-fn write_entries(log: &[u8], b: u32, firsts: &[u32], table: &[u16], out: &mut [u8])
-    requires { Tabled log.now b firsts.now table.now × (packed_length (interval_workers (workers_of log.now)) ≤ max_length)
-        × (packed_length (interval_workers (workers_of log.now)) ≤ length out.old) }
+fn write_entries(table: &IntervalTable, out: &mut [u8])
+    requires { (packed_length (interval_workers (workers_of table.now.log.now)) ≤ max_length)
+        × (packed_length (interval_workers (workers_of table.now.log.now)) ≤ length out.old) }
     ensures out { out.new ≡ overwrite (header_of 0)
-        (join_below (entry_of (interval_workers (workers_of log.now))) (worker_count (workers_of log.now))) out.old }
+        (join_below (entry_of (interval_workers (workers_of table.now.log.now))) (worker_count (workers_of table.now.log.now))) out.old }
 {
+    let log = table.log;
     let n = event_log::worker_count(log);
     let mut start = event_log::header_of(n as u32);
     for w in 0..n {
         let last = EventIndex(event_log::event_count(log, w));
-        let receives = interval_blocks::interval_of(log, b, firsts, table, w, last);
+        let receives = table.interval_of(w, last);
         let kept = interval_refusals::kept_count(log, w);
         pack::write_entry(w, start, receives.0, kept, event_log::role_of(log, w), out);
         start += records::EVENT_SIZE * (receives.0 as usize)
@@ -173,11 +153,11 @@ fn write_with(log: &[u8], b: u32, size: usize, out: &mut [u8])
     ensures out { out.new ≡ onto (packed (interval_log (workers_of log.now))) out.old }
 {
     let mut firsts = [0u32; event_log::MAX_WORKERS];
-    let mut table = [0u16; PLACES];
-    interval_blocks::fill(log, b, &mut firsts, &mut table);
+    let mut places = [0u16; PLACES];
+    let table = IntervalTable::new(log, b, &mut firsts, &mut places);
     pack::write_fields(records::THIRD_FORM, event_log::worker_count(log), size, out);
-    write_entries(log, b, &firsts, &table, out);
-    write_sections(log, b, &firsts, &table, out);
+    write_entries(&table, out);
+    write_sections(&table, out);
 }
 
 // Writes the interval log, whose length is `size`, with the smallest blocks that the table has places for. It is not made a part of its

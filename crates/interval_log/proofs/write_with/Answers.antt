@@ -11,10 +11,10 @@ use Rattle.intervals.specs.Interval.{interval_workers, interval_log}
 use Rattle.intervals.proofs.IntervalModel.{interval_size}
 use Rattle.interval_log.proofs.write_with.Goals as goal
 
-pub fill-requires : goal.fill-requires
-fill-requires c =
+pub new-table-requires : goal.new-table-requires
+new-table-requires c =
     let layout = accepted_layout _ c.requires.0.accepted in
-    (layout, c.requires.1, workers_few _ layout, c.requires.2)
+    (c.requires.0.accepted, c.requires.1, workers_few _ layout, c.requires.2)
 
 pub write_fields-requires : goal.write_fields-requires
 write_fields-requires c =
@@ -27,5 +27,5 @@ returns c =
     let log = workers_of c.args.log.now in
     let whole = rw (interval_size log) at (packed_written (interval_log log) c.args.out.now) in record {
       out = c.write_sections.ensures.out
-          ∙ rw (c.write_entries.ensures.out, c.write_fields.ensures.out, c.worker_count.ensures.answer, c.requires.0.long) whole;
+          ∙ rw (c.write_entries.ensures.out, c.write_fields.ensures.out, c.new-table.ensures.log, c.worker_count.ensures.answer, c.requires.0.long) whole;
     }

@@ -9,7 +9,6 @@ use Rattle.accept.specs.Refusal.{log_refusal}
 use Rattle.pack.specs.Packed.{packed_length}
 use Rattle.intervals.specs.declared.IntervalNumber.{IntervalNumber}
 use Rattle.intervals.specs.Interval.{interval_workers}
-use Rattle.interval_blocks.specs.Inner.Blocks.{Blocks}
 
 -- the places of the table
 abbrev pub table_places : ℕ
@@ -22,11 +21,6 @@ naming e number = record { kind = e.kind; peer = e.peer; spare = e.spare; send =
 -- e names an event of a worker
 abbrev pub NamesEvent : Workers → Event → Type 0
 NamesEvent log e = (e.peer < worker_count log) × (0 < e.send) × (e.send ≤ event_count log e.peer)
-
--- an accepted log, and a table of its intervals
-pub record Tabled (s : List ℕ) (b : ℕ) (firsts table : List ℕ) : Type 0 where
-  pub accepted : log_refusal s ≡ 0
-  pub blocks : Blocks (workers_of s) b firsts table
 
 -- an accepted log whose interval log has this length, is not too long and has room in the bytes lent
 pub record Space (s : List ℕ) (size lent : ℕ) : Type 0 where
