@@ -14,7 +14,7 @@ use Rattle.ranges.specs.Fold.{any_below, last_below, tabulate}
 use Rattle.ranges.proofs.Order.{lt_or_le, rising}
 use Rattle.ranges.proofs.Any.{any_each, any_every, any_found, any_some}
 use Rattle.ranges.proofs.Bools.{and_true_left, and_true_right, or_true_cases}
-use Rattle.ranges.proofs.First.{last, last_zero}
+use Rattle.ranges.proofs.First.{last}
 use Rattle.ranges.proofs.Tabulate.{length_tabulate, get_d_tabulate, get_d_tabulate_past, get_d_replicate_all, tabulate_list}
 use Rattle.records.specs.declared.Event.{Event}
 use Rattle.records.specs.declared.Checkpoint.{Checkpoint}
@@ -53,11 +53,6 @@ module _ (log : Workers) (t : ℕ) where
   pub set_identifier : (w c : ℕ) → is_set log t w c ≡ true → (checkpoint_of log w c).identifier ≡ t
   unfolding is_set
   set_identifier w c e = eqb-true (checkpoint_of log w c).identifier t (and_true_right (may_choose log w c) (eqb (checkpoint_of log w c).identifier t) e)
-
-  -- the index of the set is 0 where no checkpoint has identifier t
-  pub set_none : (w : ℕ) → ((c : ℕ) → c < checkpoint_count log w + 1 → is_set log t w c ≡ false) → set_index log t w ≡ 0
-  unfolding set_index
-  set_none w none = last_zero (is_set log t w) (index_of log w) (checkpoint_count log w + 1) none
 
   module _ (ok : WellFormed log) where
     -- one checkpoint only has identifier t

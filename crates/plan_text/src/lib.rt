@@ -41,6 +41,7 @@ fn write_decimal(number: u64, digits: &mut [u8; 20]) -> usize
     ensures text { drop result digits.new ≡ decimal number }
 {
     let mut rest = number;
+    // By hand: of bytes that std's formatter writes into a lent slice a proof knows nothing.
     for from in (0..20).rev() {
         digits[from] = b'0' + (rest % 10) as u8;
         rest /= 10;
@@ -48,7 +49,7 @@ fn write_decimal(number: u64, digits: &mut [u8; 20]) -> usize
             return from;
         }
     }
-    0
+    unreachable!()
 }
 
 // Puts a name and a number in decimal.

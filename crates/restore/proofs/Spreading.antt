@@ -1,19 +1,15 @@
 -- A cut spread over plan words, from the last worker down. Assumes nothing.
-use mathlib.Core.Path.{◌≡◌, refl, sym, ◌∙◌}
-use mathlib.Core.List.{List, ◌++◌}
+use mathlib.Core.Path.{◌≡◌, sym, ◌∙◌}
+use mathlib.Core.List.{List}
 use Prim.Native.Nat.{ℕ, ◌-◌, ◌*◌, ◌<◌, ◌≤◌}
 use native.Mathlib.Omega.{arith}
-use lib.ListN.{length, set, take, drop, length-set, length-append, length-drop}
+use lib.ListN.{length, set, take, length-set}
 use lib.Seq.{get_or-set_same, get_or-set_other, get_or-take, length-take-le}
 use Rattle.ranges.specs.Fold.{tabulate}
 use Rattle.ranges.proofs.Order.{at_or_other}
 use Rattle.ranges.proofs.Tabulate.{tabulate_list}
 use Rattle.lent.specs.Lent.{at}
 use Rattle.cost.specs.Words.{cut_in}
-
--- a cut of n workers written over the first of their plan words
-pub cut_over : {cut new : List ℕ} (words : List ℕ) (n : ℕ) → new ≡ cut → length cut ≡ n → length words ≡ 3 * n → length (new ++ drop n words) ≡ 3 * n
-cut_over {cut} words n is long wide = rw is (length-append cut (drop n words) ∙ rw length-drop (omega arith))
 
 -- the words while the cut in the first n of them is spread from the last worker down: below w it stands there yet, and from w on in
 -- the first word of each worker
@@ -22,10 +18,6 @@ pub record Spread (lent words : List ℕ) (n w : ℕ) : Type 0 where
   pub few : w ≤ n
   pub left : (v : ℕ) → v < w → at words v ≡ at lent v
   pub cuts : (v : ℕ) → w ≤ v → v < n → cut_in words v ≡ at lent v
-
-pub spread_none : (words : List ℕ) (n : ℕ) → length words ≡ 3 * n → Spread words words n n
-spread_none words n wide =
-    record { wide = wide; few = omega arith; left = λ v h. refl; cuts = λ v low h. let no : ⊥ = omega arith in absurd no }
 
 pub spread_more : {lent words : List ℕ} {n w : ℕ} → Spread lent words n w → 0 < w → Spread lent (set words (3 * (w - 1)) (at words (w - 1))) n (w - 1)
 unfolding cut_in

@@ -34,17 +34,6 @@ pub record Begun (log : Workers) (words₀ words looked : List ℕ) (n : ℕ) : 
   pub looks : (v : ℕ) → v < n → at looked v ≡ cut_in words₀ v
 
 module _ (log : Workers) (words₀ : List ℕ) where
-  pub begun_none : (looked : List ℕ) → length words₀ ≡ 3 * worker_count log → length looked ≡ worker_count log → Begun log words₀ words₀ looked 0
-  begun_none looked wide long =
-      record {
-        wide = wide;
-        long = long;
-        cuts = λ v. omega arith;
-        number = λ v h. let no : ⊥ = omega arith in absurd no;
-        start = λ v h. let no : ⊥ = omega arith in absurd no;
-        looks = λ v h. let no : ⊥ = omega arith in absurd no;
-      }
-
   pub begun_more : (words looked : List ℕ) (w : ℕ) → w < worker_count log → Begun log words₀ words looked w
       → Begun log words₀ (placed log words w (latest_of log words₀ w)) (set looked w (cut_in words₀ w)) (w + 1)
   begun_more words looked w here b =

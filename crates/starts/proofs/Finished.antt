@@ -27,9 +27,6 @@ pub record Finishing (log : Workers) (words₀ words : List ℕ) (n : ℕ) : Typ
   pub left : (j : ℕ) → 3 * n ≤ j → at words j ≡ at words₀ j
 
 module _ (log : Workers) (words₀ : List ℕ) where
-  pub finishing_none : Finishing log words₀ words₀ 0
-  finishing_none = record { wide = refl; done = λ j h. let no : ⊥ = omega arith in absurd no; left = λ j h. refl }
-
   -- a third word becomes the identifier
   third : (w : ℕ) → finished_word log words₀ (3 * w + 2) ≡ identifier_of log w (number_in words₀ w)
   unfolding finished_word identifier_in

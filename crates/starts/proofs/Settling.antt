@@ -8,7 +8,7 @@ use mathlib.Core.List.{List}
 use Prim.Native.Nat.{ℕ, ◌+◌, ◌-◌, ◌*◌, ◌<◌, ◌≤◌}
 use native.Mathlib.Omega.{arith}
 use lib.ListN.{length, set, length-set}
-use lib.Seq.{get_or-set_same, get_or-set_other, set-get_or, set-set}
+use lib.Seq.{get_or-set_same, get_or-set_other, set-set}
 use Rattle.ranges.specs.Fold.{sum_below}
 use Rattle.ranges.proofs.Order.{lt_or_le, at_or_other, climbing}
 use Rattle.ranges.proofs.Sum.{sum_lt}
@@ -170,9 +170,6 @@ module _ (log : Workers) (ok : WellFormed log) (cut : List ℕ) (is_cut : IsCut 
           (lt_or_le k j)
 
 -- ---- the events of a worker
-pub looked_none : (log : Workers) (cut words looked : List ℕ) → RollingBack log cut words looked → Looked log cut words looked words looked
-looked_none log cut words looked state = record { rolling = state; starts = λ v. omega arith; looks = λ v. omega arith }
-
 module _ (log : Workers) (ok : WellFormed log) (cut : List ℕ) (is_cut : IsCut log cut) (words₀ looked₀ words looked : List ℕ) (so : Looked log cut words₀ looked₀ words looked)
     (w : ℕ) (here : w < worker_count log) (some : start_in words w < at looked w) where
   -- one event more
@@ -197,10 +194,6 @@ pub record Looking (log : Workers) (cut words₀ looked₀ : List ℕ) (w start 
   pub looked : Looked log cut words₀ looked₀ words (set looked₀ w x)
   pub own : start_in words w ≡ start
 
-pub looking_none : (log : Workers) (cut words looked : List ℕ) → RollingBack log cut words looked → (w : ℕ)
-    → Looking log cut words looked w (start_in words w) words (at looked w)
-looking_none log cut words looked state w = record { looked = rw (set-get_or looked w 0) (looked_none log cut words looked state); own = refl }
-
 module _ (log : Workers) (ok : WellFormed log) (cut : List ℕ) (is_cut : IsCut log cut) (words₀ looked₀ : List ℕ) (w : ℕ) (here : w < worker_count log)
     (start : ℕ) (words : List ℕ) (x : ℕ) (so : Looking log cut words₀ looked₀ w start words x) where
   short : w < length looked₀
@@ -208,9 +201,6 @@ module _ (log : Workers) (ok : WellFormed log) (cut : List ℕ) (is_cut : IsCut 
 
   at_x : at (set looked₀ w x) w ≡ x
   at_x = get_or-set_same looked₀ w x 0 short
-
-  pub looking_event : start < x → IsEvent log w x
-  looking_event some = (omega arith, omega (arith, so.looked.rolling.looks w, at_x, is_cut.within w))
 
   -- the sender is another worker
   own_start : start_in (resent log (event_of log w x) words) w ≡ start_in words w
@@ -231,9 +221,6 @@ module _ (log : Workers) (ok : WellFormed log) (cut : List ℕ) (is_cut : IsCut 
   looking_more some =
       let more = looked_more log ok cut is_cut words₀ looked₀ words (set looked₀ w x) so.looked w here (omega (arith, at_x, so.own)) in
       record { looked = rw (set-set looked₀ w x (x - 1)) at (rw at_x at more); own = own_start ∙ so.own }
-
-  pub looking_done : x ≤ start → at (set looked₀ w x) w ≤ start_in words w
-  looking_done end = omega (arith, at_x, so.own)
 
 -- the words of an event's peer are there
 pub peer_wide : (s : List ℕ) (w x wide : ℕ) (e : Event) → log_refusal s ≡ 0 → wide ≡ 3 * worker_count (workers_of s) → IsEvent (workers_of s) w x

@@ -7,16 +7,17 @@ use lib.ListN.{length, drop, length-drop}
 use lib.Seq.{take_all}
 use Rattle.plan_text.specs.Text.{text_of}
 use Rattle.plan_text.proofs.write_text.Goals as goal
+use Rattle.plan_text.proofs.write_text.Goals.{then-input-lt8-via-then-input-lt8, then-input-lt8-via-else-input-lt8+then-input-gt-MAX_INPUT}
 
 pub returns-then-input-lt8 : goal.returns-then-input-lt8
 unfolding text_of
-returns-then-input-lt8 c = record { text = rw (lt-ltb _ _ c.if-input-lt8.true) c.put_refused.ensures.text }
-
-pub returns-then-input-gt-MAX_INPUT : goal.returns-then-input-gt-MAX_INPUT
-unfolding text_of
-returns-then-input-gt-MAX_INPUT c = record {
-  text = rw (le-ltb _ _ c.if-input-lt8.false, lt-ltb _ _ c.if-input-gt-MAX_INPUT.true) c.put_refused-then-input-gt-MAX_INPUT.ensures.text;
-}
+returns-then-input-lt8 c =
+    elim c.then-input-lt8.branch [
+      then-input-lt8-via-then-input-lt8 w ↦ record { text = rw (lt-ltb _ _ w.if-input-lt8.true) c.put_refused.ensures.text }
+    | then-input-lt8-via-else-input-lt8+then-input-gt-MAX_INPUT w ↦ record {
+        text = rw (le-ltb _ _ w.if-input-lt8.false, lt-ltb _ _ w.if-input-gt-MAX_INPUT.true) c.put_refused.ensures.text;
+      }
+    ]
 
 pub returns : goal.returns
 unfolding text_of

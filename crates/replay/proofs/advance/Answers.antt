@@ -5,6 +5,7 @@ use mathlib.Core.Path.{◌≡◌, sym, ◌∙◌}
 use mathlib.Core.List.{List}
 use Prim.Native.Nat.{ℕ, ◌<◌, ◌≤◌}
 use native.Mathlib.Omega.{arith}
+use borrow.Author.Tests.{eq-eqb}
 use lib.ListN.{length, get_or}
 use Rattle.event_log.specs.Layout.{workers_of}
 use Rattle.event_log.specs.Limits.{max_events}
@@ -41,7 +42,10 @@ bounds-positions-w-then-refusal-eq0 c = (done_place _ _ _ _ c.requires.0 c.requi
 
 pub returns-then-refusal-eq0 : goal.returns-then-refusal-eq0
 unfolding moved moved_by
-returns-then-refusal-eq0 c = grind (arith, common_steps)
+returns-then-refusal-eq0 c = record {
+  answer = c.answer-refusal.ensures.answer;
+  positions = rw (← c.answer-refusal.ensures.answer, eq-eqb _ _ c.if-refusal-eq0.true);
+}
 
 pub returns-else-refusal-eq0 : goal.returns-else-refusal-eq0
 unfolding moved moved_by
