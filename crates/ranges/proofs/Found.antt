@@ -19,13 +19,15 @@ use Rattle.ranges.proofs.First.{looked_none, looked_found, looked_end}
 
 -- `find` over `from..n`, each call of whose closure answers p and leaves the closure as it was: the first number with p, or n in its place
 module _ {F : Type 0} {g : Mut F (Bor ℕ × Unit {0}) Bool} (p : ℕ → Bool) (s u : Range ℕ) (f : F) (r : Option ℕ) where
-  pub found_in_range : (xs : List ℕ) × (j : F) × YieldsThen nat_range_steps s xs r u × FoldsTo (λ q x t. CalledAt g q x false t) f xs j × MatchOption r ⊤ (λ x. (h : F) × CalledAt g j x true h)
+  pub found_in_range : (xs : List ℕ) × (j : F) × YieldsThen nat_range_steps s xs r u × FoldsTo (λ q x t. CalledAt g q x false t) f xs j
+      × MatchOption r ⊤ (λ x. (h : F) × CalledAt g j x true h)
       → ((x : ℕ) (b : Bool) (q : F) → CalledAt g f x b q → (q ≡ f) × (b ≡ p x)) → unwrap_or r s.end ≡ first_from p s.start s.end
   found_in_range ran told =
       by r (first_from_Range s u f r (λ k. p k ≡ true) (λ k. p k ≡ false) ran (λ x q k. sym (told x true q k).1) (λ x q k. ((told x false q k).0, sym (told x false q k).1)))
     where
       by : (o : Option ℕ)
-          → MatchOption o ((k : ℕ) → s.start ≤ k → k < s.end → p k ≡ false) (λ i. (s.start ≤ i) × (i < s.end) × (p i ≡ true) × ((k : ℕ) → s.start ≤ k → k < i → p k ≡ false))
+          → MatchOption o ((k : ℕ) → s.start ≤ k → k < s.end → p k ≡ false)
+          (λ i. (s.start ≤ i) × (i < s.end) × (p i ≡ true) × ((k : ℕ) → s.start ≤ k → k < i → p k ≡ false))
           → unwrap_or o s.end ≡ first_from p s.start s.end
       by None none =
           ⊎_elim (λ l. looked_end (looked_none p s.start) s.end (omega arith)) (λ l. looked_end {p = p} {from = s.start} (record { low = l; none = none }) s.end (omega arith))
