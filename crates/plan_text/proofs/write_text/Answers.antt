@@ -13,8 +13,8 @@ pub returns-then-input-lt8 : goal.returns-then-input-lt8
 unfolding text_of
 returns-then-input-lt8 c =
     elim c.then-input-lt8.branch [
-      then-input-lt8-via-then-input-lt8 w ↦ record { text = rw (lt-ltb _ _ w.if-input-lt8.true) c.put_refused.ensures.text }
-    | then-input-lt8-via-else-input-lt8+then-input-gt-MAX_INPUT w ↦ record {
+      | then-input-lt8-via-then-input-lt8 w ↦ record { text = rw (lt-ltb _ _ w.if-input-lt8.true) c.put_refused.ensures.text }
+      | then-input-lt8-via-else-input-lt8+then-input-gt-MAX_INPUT w ↦ record {
         text = rw (le-ltb _ _ w.if-input-lt8.false, lt-ltb _ _ w.if-input-gt-MAX_INPUT.true) c.put_refused.ensures.text;
       }
     ]
