@@ -29,8 +29,8 @@ returns c =
         ← take_all (length input - 8) (drop 8 input) all,
         le-ltb _ _ c.if-input-lt8.false,
         le-ltb _ _ c.if-input-gt-MAX_INPUT.false,
-        ← c.read4-2.ensures.answer,
-        ← c.read4.ensures.answer,
+        ← c.read-2.ensures.answer,
+        ← c.read.ensures.answer,
       )
           c.put_plan.ensures.text;
     }
