@@ -1,12 +1,11 @@
 -- The words of a list of step calls, each an answer and the positions after it. Assumes nothing.
-use mathlib.Core.Path.{◌≡◌, refl, sym, ◌∙◌, ap}
+use mathlib.Core.Path.{◌≡◌, ◌∙◌, ap}
 use mathlib.Core.List.{List, [], ◌∷◌, ◌++◌, append-nil}
 use Prim.Native.Nat.{ℕ, suc, ◌+◌, ◌-◌, ◌*◌, ◌<◌, ◌≤◌}
-use native.Mathlib.Nat.{suc-mul}
 use native.Mathlib.Numerals.{add-one}
 use native.Mathlib.Omega.{arith}
 use borrow.Rule.Slice.PartMut.{put_mid, same_len_mid}
-use lib.ListN.{length, take, drop, get_or, set, length-take, length-drop, length-set, drop_of_length-le}
+use lib.ListN.{length, take, drop, get_or, set, length-take, length-drop, drop_of_length-le}
 use Rattle.event_log.specs.Model.{Workers}
 use Rattle.accept.specs.Refusal.{Given}
 use Rattle.cost.specs.Words.{cuts_in, starts_in}

@@ -1,9 +1,8 @@
 -- `pack::packed_length` meets its contract: before turn w `at` is where the sections of worker w begin: where the header ends for worker 0,
 -- and one worker's sections further after each turn. Assumes nothing.
 use Rattle.std.proofs.lemmas.Grind.{common_steps}
-use mathlib.Core.Path.{◌≡◌, sym, ◌∙◌}
+use mathlib.Core.Path.{sym, ◌∙◌}
 use native.Mathlib.Omega.{arith}
-use native.Mathlib.Nat.{le_antisymm}
 use Rattle.pack.specs.Packed.{packed_length}
 use Rattle.pack.proofs.Writing.{start_first, start_next, limited, next_fits}
 use Rattle.pack.proofs.packed_length.Goals as goal

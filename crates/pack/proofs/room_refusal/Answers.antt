@@ -2,8 +2,6 @@
 -- tests of `room_refusal` in its order. Assumes nothing.
 use Rattle.std.proofs.lemmas.Grind.{common_steps}
 use native.Mathlib.Omega.{arith}
-use borrow.Author.Tests.{lt-ltb, le-ltb}
-use Rattle.event_log.specs.Limits.{max_length}
 use Rattle.pack.specs.Calls.{room_refusal}
 use Rattle.pack.proofs.room_refusal.Goals as goal
 

@@ -5,7 +5,7 @@ use native.Mathlib.Omega.{arith}
 use Rattle.event_log.specs.Layout.{workers_of}
 use Rattle.pack.specs.Packed.{numbers_of, entry_of}
 use Rattle.pack.proofs.Header.{entries_long}
-use Rattle.pack.proofs.Writing.{written_none, written_more, written_end, start_first, start_next, limited, next_fits, header_within, entry_within}
+use Rattle.pack.proofs.Writing.{written_none, written_more, start_first, start_next, limited, next_fits, header_within, entry_within}
 use Rattle.pack.proofs.write_entries.Goals as goal
 
 pub loop-w-init : goal.loop-w-init

@@ -1,10 +1,9 @@
 -- `pack::write_numbers` meets its contract: after j turns the first j numbers stand from `at` on in 4 bytes each, and every other byte is
 -- as lent. Assumes nothing.
-use mathlib.Core.Path.{refl}
 use native.Mathlib.Omega.{arith}
 use Rattle.pack.specs.Packed.{number_at}
 use Rattle.pack.proofs.Header.{numbers_long}
-use Rattle.pack.proofs.Writing.{written_none, written_more, written_end}
+use Rattle.pack.proofs.Writing.{written_none, written_more}
 use Rattle.pack.proofs.write_numbers.Goals as goal
 
 pub loop-j-init : goal.loop-j-init

@@ -4,7 +4,7 @@ use mathlib.Core.Path.{sym, ◌∙◌}
 use native.Mathlib.Omega.{arith}
 use Rattle.event_log.specs.Layout.{workers_of}
 use Rattle.pack.proofs.Header.{sections_before}
-use Rattle.pack.proofs.Writing.{written_none, written_more, written_end, room_same, start_first, header_within}
+use Rattle.pack.proofs.Writing.{written_none, written_more, start_first, header_within}
 use Rattle.pack.proofs.write_sections.Goals as goal
 
 pub loop-w-init : goal.loop-w-init

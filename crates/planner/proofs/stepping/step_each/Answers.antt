@@ -1,6 +1,5 @@
 -- `planner::stepping::step_each` meets its contract: after j turns the first j × (n + 1) words are the answers and positions of the
 -- machine's run of the first j numbers, and the positions are those after it, still between starts and cuts. Assumes nothing.
-use mathlib.Core.Path.{refl}
 use Rattle.lent.proofs.Left.{answer_of_lem, slice_of}
 use Rattle.replay.proofs.Storing.{storing_begin}
 use Rattle.planner.proofs.StepWords.{step_wide, step_stored}
