@@ -4,8 +4,8 @@ use mathlib.Core.List.{List, [], ◌∷◌, ◌++◌, append_assoc}
 use Prim.Native.Nat.{ℕ, ◌+◌, ◌<◌, ◌≤◌}
 use native.Mathlib.Numerals.{add-one}
 use native.Mathlib.Omega.{arith}
-use lib.ListN.{length, take, drop, set, length-append, length-drop, take-append-drop}
-use lib.Seq.{take_at, drop_at, drop-drop, length-take-le, set_split}
+use lib.ListN.{length, take, drop, get_or, set, length-append, length-drop, take-append-drop}
+use lib.Seq.{take_at, drop_at, drop-drop, length-take-le, set_split, take-suc}
 use Rattle.lent.specs.Lent.{onto}
 use Rattle.lent.specs.Inner.Overwrite.{overwrite}
 
@@ -34,3 +34,13 @@ module _ (k : ℕ) (lent : List ℕ) where
       let more : drop (length b) rest ≡ drop (length (a ++ b)) (drop k lent) = rw (length-append a b) (drop-drop (length b) (length a) (drop k lent)) in
       rw (joined, take_at (take k lent ++ a) rest (k + length a) long, drop_at (take k lent ++ a) rest (k + length a) long, more)
       (append_assoc (take k lent) a (b ++ drop (length (a ++ b)) (drop k lent)) ∙ ap (λ (l : List ℕ). take k lent ++ l) (sym (append_assoc a b (drop (length (a ++ b)) (drop k lent)))))
+
+  -- .. and the elements of a list stored one by one
+  pub overwrite_next : (new : List ℕ) (j : ℕ) → j < length new → k + length new ≤ length lent
+      → set (overwrite k (take j new) lent) (k + j) (get_or new j 0) ≡ overwrite k (take (j + 1) new) lent
+  overwrite_next new j h fits =
+      let done = overwrite k (take j new) lent in
+      let front : length (take j new) ≡ j = length-take-le j new (omega arith) in
+      let long : length done ≡ length lent = length_overwrite (take j new) (omega arith) in
+      overwrite_one (k + j) done (get_or new j 0) (omega arith)
+      ∙ (rw front at (overwrite_more (take j new) (get_or new j 0 ∷ []) (omega arith))) ∙ rw (add-one, take-suc new j 0 h)

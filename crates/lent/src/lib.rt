@@ -35,10 +35,22 @@ pub fn short_scratch(scratch: usize, needed: usize) -> u32
     0
 }
 
-// Copies bytes to those from place `at` on.
+// Copies words into as many. Not by `copy_from_slice`, which is a call of `memmove` once it is compiled: the archive for C would need that name.
+pub fn copy(from: &[u32], to: &mut [u32])
+    requires { length to.old ≡ length from.now }
+    ensures words { to.new ≡ from.now }
+{
+    for (w, word) in from.iter().enumerate() {
+        to[w] = *word;
+    }
+}
+
+// Copies bytes to those from place `at` on, one by one for the same reason.
 pub fn copy_bytes(from: &[u8], to: &mut [u8], at: usize)
     requires { at + length from.now ≤ length to.old }
     ensures bytes { to.new ≡ overwrite at from.now to.old }
 {
-    to[at..at + from.len()].copy_from_slice(from);
+    for (k, byte) in from.iter().enumerate() {
+        to[at + k] = *byte;
+    }
 }

@@ -15,7 +15,7 @@ fn store(answer: u32, positions: &[u32], part: &mut [u32])
     ensures part { part.new ≡ answer ∷ positions.now }
 {
     part[0] = answer;
-    part[1..].copy_from_slice(positions);
+    lent::copy(positions, &mut part[1..]);
 }
 
 // One call of `step` for each number of the list, with what each leaves.

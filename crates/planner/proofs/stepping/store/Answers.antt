@@ -4,4 +4,4 @@ use Rattle.planner.proofs.StepWords.{put_rest}
 use Rattle.planner.proofs.stepping.store.Goals as goal
 
 pub returns : goal.returns
-returns c = record { part = rw c.copy_from_slice.ensures.after (put_rest _ _ _ c.requires) }
+returns c = record { part = rw c.copy.ensures.words (put_rest _ _ _ c.requires) }
