@@ -19,7 +19,9 @@ fn steps_refusal(log: &[u8], words: &[u32], positions: &[u32], others: u32) -> u
     crate::state_refusal(log, words, positions, others)
 }
 
-// One step for each number of the list, over a state that was tested.
+// One step for each number of the list, over a state that was tested. It is not made a part of its caller: so the loop has its pointers in
+// registers, which the tests of the log and of the state would take from it.
+#[inline(never)]
 fn advance_each(
     log: &[u8],
     words: &[u32],
