@@ -154,8 +154,8 @@ module _ (log : Workers) where
       }
 
   -- a range with no number, and two ranges that follow each other
-  pub within_none : (low : ℕ) → some_again_within log low low ≡ false
-  within_none low = never_true _ (λ e. let f = some_found low low e in let no : ⊥ = omega (arith, f.least, f.less) in no)
+  pub within_none : (low high : ℕ) → high ≤ low → some_again_within log low high ≡ false
+  within_none low high h = never_true _ (λ e. let f = some_found low high e in let no : ⊥ = omega (arith, f.least, f.less) in no)
 
   pub within_more : (low mid high : ℕ) → some_again_within log low mid ≡ false → some_again_within log mid high ≡ false → some_again_within log low high ≡ false
   within_more low mid high first rest =

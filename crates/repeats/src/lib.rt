@@ -2,14 +2,14 @@
 // none; else the receives are gone through with a table of bits, one for each event that may be a send.
 #![tactic(auto)]
 
-ghost use Rattle.std.specs.Prelude.{◌≡◌, false, ◌+◌, ◌*◌, ◌<◌, ◌≤◌, eqb, length};
+ghost use Rattle.std.specs.Prelude.{◌≡◌, false, ◌⊎◌, ◌+◌, ◌*◌, ◌<◌, ◌≤◌, eqb, length};
 ghost use Rattle.event_log.specs.Header.{layout_refusal};
 ghost use Rattle.event_log.specs.Model.{worker_count};
 ghost use Rattle.records.specs.Event.{received};
 ghost use Rattle.event_log.specs.Layout.{workers_of, log_of};
 ghost use Rattle.repeats.specs.Repeats.{repeat_fault};
 ghost use Rattle.repeats.specs.Inner.Again.{Messages, worker_again, some_again};
-ghost use Rattle.repeats.specs.Inner.Table.{word_bits, many_words, table_bits, bit_at, marked, all_events, place_of};
+ghost use Rattle.repeats.specs.Inner.Table.{word_bits, few_words, many_words, table_bits, bit_at, marked, all_events, place_of};
 ghost use Rattle.repeats.specs.Inner.Table.{table_after, found_marked, Numbered, Marks, worker_again_within, some_again_within};
 
 use records::Event;
@@ -147,7 +147,8 @@ const MANY_WORDS: usize = 16384;
 // callers, so a log that needs no large table does not have it in its frames.
 #[inline(never)]
 fn repeat_within<const WORDS: usize>(log: &[u8], firsts: &[u32], low: usize) -> bool
-    requires { (layout_refusal log.now ≡ 0) × Messages (workers_of log.now) × Numbered (workers_of log.now) firsts.now × (WORDS ≤ many_words) }
+    requires { (layout_refusal log.now ≡ 0) × Messages (workers_of log.now) × Numbered (workers_of log.now) firsts.now
+        × ((WORDS ≡ few_words) ⊎ (WORDS ≡ many_words)) }
     ensures answer { result ≡ some_again_within (workers_of log.now) low (low + word_bits * WORDS) }
 {
     let mut table = [0u32; WORDS];

@@ -32,7 +32,7 @@ returns-then-events c =
 
 -- a group of numbers after the other
 pub loop-low-init : goal.loop-low-init
-loop-low-init c = within_none _ _
+loop-low-init c = within_none _ 0 0 (omega arith)
 
 pub loop-low-preserved : goal.loop-low-preserved
 loop-low-preserved c = within_more _ _ _ _ c.loop-low.invariant (sym c.if-repeat_within.ensures.answer)

@@ -9,9 +9,12 @@ use Rattle.event_log.specs.Model.{Workers, worker_count, event_count, event_of}
 use Rattle.records.specs.Event.{is_receive, received}
 use Rattle.repeats.specs.Inner.Again.{again}
 
--- the bits of a word, the words of the larger table, and the bits of a table
+-- the bits of a word, the words of the two tables, and the bits of a table
 abbrev pub word_bits : ℕ
 word_bits = 32
+
+abbrev pub few_words : ℕ
+few_words = 256
 
 abbrev pub many_words : ℕ
 many_words = 16384
