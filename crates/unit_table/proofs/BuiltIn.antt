@@ -2,16 +2,16 @@
 use mathlib.Core.Path.{◌≡◌, refl}
 use mathlib.Core.Bool.{Bool, false, not}
 use mathlib.Core.List.{[]}
-use Prim.Native.Nat.{ℕ, ◌+◌, ◌*◌, ◌<◌}
+use Prim.Native.Nat.{ℕ, ◌+◌, ◌*◌, ◌/◌, ◌%◌, ◌<◌}
 use borrow.Author.Tests.{eqb-true, not-false}
 use lib.Dec.{eqb}
 use lib.ListN.{get_or}
-use Rattle.ranges.specs.Fold.{any_below, join_below}
+use Rattle.ranges.specs.Fold.{any_below, tabulate, join_below}
 use Rattle.ranges.proofs.Any.{any_each}
 use Rattle.lent.specs.Lent.{at}
 use Rattle.records.specs.declared.Kind.{Kind}
 use Rattle.records.specs.Kind.{column}
-use Rattle.unit_table.specs.Table.{rows, built_in, table_of, built_in_words, unit_fault, table_refusal}
+use Rattle.unit_table.specs.Table.{table_words, rows, built_in, table_of, built_in_words, unit_fault, table_refusal}
 
 -- "The built-in table loads like any other"
 pub built_in_loads : table_refusal built_in_words ≡ 0
@@ -33,3 +33,11 @@ built_in_same role kind h l =
     let row = any_each (λ r. any_below (differs r) 3) 4 none_differs role h in
     eqb-true (at built_in_words (3 * role + column kind)) (get_or (get_or rows role []) (column kind) 0)
     (not-false _ (any_each (differs role) 3 row (column kind) l))
+
+-- the words one by one, by role and column
+abbrev pub word_at : ℕ → ℕ
+word_at j = get_or (get_or rows (j / 3) []) (j % 3) 0
+
+pub words_are : tabulate word_at table_words ≡ built_in_words
+unfolding tabulate built_in_words join_below
+words_are = refl

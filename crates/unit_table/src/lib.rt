@@ -18,15 +18,17 @@ const LEAST: u32 = 1;
 const LARGEST: u32 = 1000;
 
 // The built-in table: a row for each role.
-const UNITS: [u32; TABLE_WORDS] = [2, 3, 5, 2, 4, 6, 3, 8, 9, 2, 5, 7];
+const UNITS: [[u32; KINDS]; 4] = [[2, 3, 5], [2, 4, 6], [3, 8, 9], [2, 5, 7]];
 
-// Writes the words of the built-in table.
+// Writes the words of the built-in table. Word j is of role j / KINDS and column j % KINDS.
 pub fn write_built_in(table: &mut [u32])
     requires { length table.old ≡ table_words }
     ensures table { table.new ≡ built_in_words }
     ensures loads { table_refusal table.new ≡ 0 }
 {
-    table.copy_from_slice(&UNITS);
+    for (j, word) in table.iter_mut().enumerate() {
+        *word = UNITS[j / KINDS][j % KINDS];
+    }
 }
 
 // Whether some word is outside what a unit table may have.
