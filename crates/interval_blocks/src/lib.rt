@@ -4,7 +4,6 @@
 
 ghost use Rattle.std.specs.Prelude.{◌≡◌, ◌+◌, ◌*◌, ◌^◌, ◌<◌, ◌≤◌, min, length};
 ghost use Rattle.event_log.specs.Header.{layout_refusal};
-ghost use Rattle.accept.specs.Refusal.{log_refusal};
 ghost use Rattle.event_log.specs.Model.{worker_count, event_count};
 ghost use Rattle.event_log.specs.Layout.{workers_of};
 ghost use Rattle.intervals.specs.Interval.{index, interval_at};
@@ -60,29 +59,30 @@ fn fill_row(log: &[u8], b: u32, w: usize, first: usize, table: &mut [u16])
     }
 }
 
-// An accepted log with a table of the intervals at the starts of its blocks of 2^b events: the rows of all workers, one behind the other, and in
-// `firsts` the place of the first block of each.
+// A log that passes the tests 1 to 6, with a table of the intervals at the starts of its blocks of 2^b events: the rows of all workers, one behind
+// the other, and in `firsts` the place of the first block of each.
 #[derive(Clone, Copy)]
 pub struct IntervalTable<'a> {
     pub log: &'a [u8],
-    b: u32,
-    firsts: &'a [u32],
-    table: &'a [u16],
-    pub ghost accepted: { log_refusal log.now ≡ 0 },
-    ghost blocks: { Blocks (workers_of log.now) b firsts.now table.now },
+    pub b: u32,
+    pub firsts: &'a [u32],
+    pub table: &'a [u16],
+    pub ghost laid_out: { layout_refusal log.now ≡ 0 },
+    pub ghost blocks: { Blocks (workers_of log.now) b firsts.now table.now },
 }
 
 impl<'a> IntervalTable<'a> {
-    // The table of a log, filled in words that are lent for it. What is past its rows is free.
+    // The table of a log, with blocks of 2^b events, filled in words that are lent for it. What is past its rows is free.
     pub fn new(
         log: &'a [u8],
         b: u32,
         firsts: &'a mut [u32],
         table: &'a mut [u16],
     ) -> IntervalTable<'a>
-        requires { (log_refusal log.now ≡ 0) × (b ≤ most_bits) × (worker_count (workers_of log.now) ≤ length firsts.old)
+        requires { (layout_refusal log.now ≡ 0) × (b ≤ most_bits) × (worker_count (workers_of log.now) ≤ length firsts.old)
             × (first_block (workers_of log.now) b (worker_count (workers_of log.now)) ≤ length table.old) }
         ensures log { result.log.now ≡ log.now }
+        ensures size { result.b ≡ b }
     {
         let n = event_log::worker_count(log);
         let mut first: usize = 0;

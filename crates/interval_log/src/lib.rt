@@ -9,7 +9,7 @@ ghost use Rattle.bytes_le.specs.Little.{bytes_of};
 ghost use Rattle.event_log.specs.Limits.{max_length};
 ghost use Rattle.event_log.specs.Layout.{header_of, workers_of};
 ghost use Rattle.event_log.specs.Model.{worker_count, event_count, checkpoint_count};
-ghost use Rattle.accept.specs.Refusal.{given};
+ghost use Rattle.accept.specs.Refusal.{log_refusal, given};
 ghost use Rattle.pack.specs.Packed.{event_bytes, event_at, checkpoint_at, sections_of, sections_size, entry_of, packed_length, packed};
 ghost use Rattle.pack.specs.Calls.{pack_answer};
 ghost use Rattle.intervals.specs.Interval.{index, interval_at, interval_workers, interval_log};
@@ -55,7 +55,7 @@ fn named_interval(table: &IntervalTable, e: Event) -> IntervalNumber
 
 // Writes the receives of worker w from place `at` on. Returns where they end.
 fn write_events(table: &IntervalTable, w: usize, out: &mut [u8], at: usize) -> usize
-    requires { at + 12 * event_count (interval_workers (workers_of table.now.log.now)) w ≤ length out.old }
+    requires { (log_refusal table.now.log.now ≡ 0) × (at + 12 * event_count (interval_workers (workers_of table.now.log.now)) w ≤ length out.old) }
     ensures answer { result ≡ at + 12 * event_count (interval_workers (workers_of table.now.log.now)) w }
     ensures out { out.new ≡ overwrite at (join_below (event_at (interval_workers (workers_of table.now.log.now)) w)
         (event_count (interval_workers (workers_of table.now.log.now)) w)) out.old }
@@ -78,7 +78,7 @@ fn write_events(table: &IntervalTable, w: usize, out: &mut [u8], at: usize) -> u
 
 // Writes the checkpoints of worker w that are not withdrawn from place `at` on. Returns where they end.
 fn write_checkpoints(table: &IntervalTable, w: usize, out: &mut [u8], at: usize) -> usize
-    requires { at + 8 * checkpoint_count (interval_workers (workers_of table.now.log.now)) w ≤ length out.old }
+    requires { (log_refusal table.now.log.now ≡ 0) × (at + 8 * checkpoint_count (interval_workers (workers_of table.now.log.now)) w ≤ length out.old) }
     ensures answer { result ≡ at + 8 * checkpoint_count (interval_workers (workers_of table.now.log.now)) w }
     ensures out { out.new ≡ overwrite at (join_below (checkpoint_at (interval_workers (workers_of table.now.log.now)) w)
         (checkpoint_count (interval_workers (workers_of table.now.log.now)) w)) out.old }
@@ -101,7 +101,7 @@ fn write_checkpoints(table: &IntervalTable, w: usize, out: &mut [u8], at: usize)
 
 // Writes the sections of worker w from place `at` on. Returns where they end.
 fn write_worker(table: &IntervalTable, w: usize, out: &mut [u8], at: usize) -> usize
-    requires { at + sections_size (interval_workers (workers_of table.now.log.now)) w ≤ length out.old }
+    requires { (log_refusal table.now.log.now ≡ 0) × (at + sections_size (interval_workers (workers_of table.now.log.now)) w ≤ length out.old) }
     ensures answer { result ≡ at + sections_size (interval_workers (workers_of table.now.log.now)) w }
     ensures out { out.new ≡ overwrite at (sections_of (interval_workers (workers_of table.now.log.now)) w) out.old }
 {
@@ -112,7 +112,7 @@ fn write_worker(table: &IntervalTable, w: usize, out: &mut [u8], at: usize) -> u
 // Writes the sections of each worker.
 #[tactic(auto, using(crate::proofs::Kept::entry_laws))]
 fn write_sections(table: &IntervalTable, out: &mut [u8])
-    requires { packed_length (interval_workers (workers_of table.now.log.now)) ≤ length out.old }
+    requires { (log_refusal table.now.log.now ≡ 0) × (packed_length (interval_workers (workers_of table.now.log.now)) ≤ length out.old) }
     ensures out { out.new ≡ overwrite (header_of (worker_count (workers_of table.now.log.now)))
         (join_below (sections_of (interval_workers (workers_of table.now.log.now))) (worker_count (workers_of table.now.log.now))) out.old }
 {
@@ -126,7 +126,7 @@ fn write_sections(table: &IntervalTable, out: &mut [u8])
 // Writes the entry of each worker.
 #[tactic(auto, using(crate::proofs::Kept::entry_laws), unfolding(pack::specs::Packed::sections_size, pack::specs::Packed::entry_of, pack::specs::Packed::numbers_of))]
 fn write_entries(table: &IntervalTable, out: &mut [u8])
-    requires { (packed_length (interval_workers (workers_of table.now.log.now)) ≤ max_length)
+    requires { (log_refusal table.now.log.now ≡ 0) × (packed_length (interval_workers (workers_of table.now.log.now)) ≤ max_length)
         × (packed_length (interval_workers (workers_of table.now.log.now)) ≤ length out.old) }
     ensures out { out.new ≡ overwrite (header_of 0)
         (join_below (entry_of (interval_workers (workers_of table.now.log.now))) (worker_count (workers_of table.now.log.now))) out.old }

@@ -25,5 +25,5 @@ loop-w-preserved c =
     let role = c.role_of.ensures.answer ∙ sym (interval_role _ _) in
     let wrote = rw (role, c.kept_count-kept.ensures.answer, receives, c.loop-w.invariant.0) at c.write_entry.ensures.out in (
       rw (c.loop-w.invariant.0, receives, c.kept_count-kept.ensures.answer) (sym (start_next _ _)),
-      written_more c.loop-w.invariant.1 c.loop-w-test.true (omega (arith, c.requires.1)) (omega arith) wrote c.write_entry.auto.out,
+      written_more c.loop-w.invariant.1 c.loop-w-test.true (omega (arith, c.requires.2)) (omega arith) wrote c.write_entry.auto.out,
     )

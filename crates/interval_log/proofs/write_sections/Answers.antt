@@ -19,6 +19,6 @@ loop-w-preserved c =
     let within = header_within log in
     let place = sections_before log c.loop-w.w in (
       rw c.loop-w.invariant.0 at c.write_worker-at.ensures.answer ∙ sym (start_next _ _),
-      written_more c.loop-w.invariant.1 c.loop-w-test.true (omega (arith, c.requires)) (omega (arith, c.loop-w.invariant.0)) c.write_worker-at.ensures.out
+      written_more c.loop-w.invariant.1 c.loop-w-test.true (omega (arith, c.requires.1)) (omega (arith, c.loop-w.invariant.0)) c.write_worker-at.ensures.out
           c.write_worker-at.auto.out,
     )

@@ -5,14 +5,13 @@ use Prim.Native.Nat.{◌/◌, ◌*◌, ◌%◌, ◌^◌}
 use native.Mathlib.Nat.{div-mul-le_self, mod-eq_of_lt}
 use native.Mathlib.Omega.{arith}
 use Rattle.event_log.proofs.Read.{count_field}
-use Rattle.accept.proofs.Accepted.{accepted_layout}
 use Rattle.interval_blocks.proofs.BlockLaws.{place_holds}
 use Rattle.interval_blocks.proofs.IntervalTable.interval_of.Goals as goal
 
 pub advance-requires : goal.advance-requires
 advance-requires c =
     let self = c.args.self.now in
-    let layout = accepted_layout _ self.accepted in
+    let layout = self.laid_out in
     let holds = place_holds _ _ _ _ self.blocks _ _ c.requires.0 c.requires.1 in
     let before = div-mul-le_self c.args.x.0 (2 ^ self.b) in
     let count = (count_field _ layout c.args.w).1 in

@@ -3,7 +3,6 @@
 use native.Mathlib.Omega.{arith}
 use Rattle.event_log.specs.Model.{worker_count}
 use Rattle.event_log.specs.Layout.{workers_of}
-use Rattle.accept.proofs.Accepted.{accepted_layout}
 use Rattle.interval_blocks.proofs.BlockLaws.{blocks_before}
 use Rattle.interval_blocks.proofs.IntervalTable.new.Goals as goal
 
@@ -12,4 +11,4 @@ fill_row-requires c =
     let turn = c.loop-w in
     let log = workers_of c.args.log.now in
     let before = blocks_before log c.args.b turn.w (worker_count log) (rw c.worker_count-n.ensures.answer at c.loop-w-test.true) in
-    (accepted_layout _ c.requires.0, c.requires.1, omega (arith, before, turn.invariant.place, turn.auto.table, c.requires.3))
+    (c.requires.0, c.requires.1, omega (arith, before, turn.invariant.place, turn.auto.table, c.requires.3))
