@@ -4,8 +4,8 @@ use Rattle.std.proofs.Common.{get_or, length, add-one}
 use Rattle.std.proofs.Math.ListN.{set}
 use Rattle.lent.specs.Inner.Overwrite.{overwrite}
 use Rattle.lent.proofs.Overwrite.{length_overwrite, overwrite_one, overwrite_more}
-use Rattle.bytes_le.specs.Little.{le, bytes_of, Bytes}
-use Rattle.bytes_le.proofs.Little.{number_below_lem, length_bytes}
+use Rattle.bytes_le.specs.Little.{le, bytes_of}
+use Rattle.bytes_le.proofs.Little.{length_bytes}
 
 -- a byte at place k, shifted to its worth
 pub shifted : (k b : ℕ) → k < 4 → b < 256 → b * 2 ^ (8 * k) % 4294967296 ≡ 256 ^ k * b
@@ -40,10 +40,10 @@ pub read_next : (k at : ℕ) (s : List ℕ) → k < 4 → get_or s (at + k) 0 < 
 unfolding le
 read_next k at s few byte = rw (add-one, shifted k (get_or s (at + k) 0) few byte)
 
--- .. which fits 32 bits
-pub read_fits : (k at : ℕ) (s : List ℕ) → k < 4 → Bytes s → le (suc k) s at < 4294967296
-read_fits zero at s h bytes = omega (arith, number_below_lem 1 s at bytes)
-read_fits (suc zero) at s h bytes = omega (arith, number_below_lem 2 s at bytes)
-read_fits (suc (suc zero)) at s h bytes = omega (arith, number_below_lem 3 s at bytes)
-read_fits (suc (suc (suc zero))) at s h bytes = omega (arith, number_below_lem 4 s at bytes)
-read_fits (suc (suc (suc (suc k)))) at s h bytes = absurd (omega arith)
+-- .. and any byte at place k, with a number of the places before it, fits 32 bits
+pub byte_fits : (k number b : ℕ) → k < 4 → number < 256 ^ k → b < 256 → number + b * 2 ^ (8 * k) % 4294967296 < 4294967296
+byte_fits zero number b h low byte = omega (arith, shifted 0 b (omega arith) byte)
+byte_fits (suc zero) number b h low byte = omega (arith, shifted 1 b (omega arith) byte)
+byte_fits (suc (suc zero)) number b h low byte = omega (arith, shifted 2 b (omega arith) byte)
+byte_fits (suc (suc (suc zero))) number b h low byte = omega (arith, shifted 3 b (omega arith) byte)
+byte_fits (suc (suc (suc (suc k)))) number b h low byte = absurd (omega arith)

@@ -1,7 +1,8 @@
 -- `bytes_le::read` meets its contract: each turn adds one byte more, by its worth (`read_next`), and four of them fit. Assumes nothing.
-use Rattle.std.proofs.Common.{◌≡◌, ◌+◌, ◌*◌, ◌^◌, ◌%◌, ◌<◌, arith, rules, refl, sym, ◌∙◌, get_or, add-one}
-use Rattle.bytes_le.specs.Little.{le}
-use Rattle.bytes_le.proofs.Places.{read_next, read_fits}
+use Rattle.std.proofs.Common.{◌+◌, ◌^◌, ◌<◌, arith, refl, sym}
+use Rattle.bytes_le.specs.Little.{le, Bytes}
+use Rattle.bytes_le.proofs.Little.{number_below_lem}
+use Rattle.bytes_le.proofs.Places.{read_next, byte_fits}
 use Rattle.bytes_le.proofs.read.Goals as goal
 
 pub loop-k-init : goal.loop-k-init
@@ -10,8 +11,10 @@ loop-k-init g c = refl
 
 pub overflow_add-number : goal.overflow_add-number
 overflow_add-number g c =
-    let next = read_next c.loop-k.k c.args.at c.args.s.now (omega arith) (omega (arith, c.type_inv.s (c.args.at + c.loop-k.k))) in
-    rw (c.loop-k.invariant, c.from.ensures, ← next, add-one) (omega (arith, read_fits c.loop-k.k c.args.at c.args.s.now (omega arith) (λ i. omega (arith, c.type_inv.s i))))
+    let bytes : Bytes c.args.s.now = λ i. omega (arith, c.type_inv.s i) in
+    let byte : c.from.result < 256 = rw c.from.ensures (bytes _) in
+    let low : c.loop-k.number < 256 ^ c.loop-k.k = rw c.loop-k.invariant (number_below_lem c.loop-k.k c.args.s.now c.args.at bytes) in
+    omega (arith, byte_fits c.loop-k.k c.loop-k.number c.from.result (omega arith) low byte)
 
 pub loop-k-preserved : goal.loop-k-preserved
 loop-k-preserved g c =
