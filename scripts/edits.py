@@ -24,7 +24,7 @@ GONE = re.compile(
 TRIED = re.compile(r"^(?:rt: )?must-fail (?P<crate>\w+)/(?P<edit>[\w.-]+)\.edit: (?P<said>.*)$")
 REFUSED = re.compile(r"^refused, as it must be(?: \((?P<but>.*?)\))?: (?P<error>(?:note: )?\S+:\d+:\d+: .*)$")
 ERROR = re.compile(r"^(?:\./)?(?P<file>\S+?):(?P<line>\d+):\d+: error: `(?P<law>[^`]+)`: (?P<said>.*)$")
-OPEN = re.compile(r"^note: (?:\./)?(?P<file>\S+?):(?P<line>\d+):\d+: [^(`]*\(`(?P<goal>[^`]+)`")
+OPEN = re.compile(r"^note: (?:\./)?(?P<file>\S+?):(?P<line>\d+):\d+: [^(]*\(`(?P<goal>[^`]+)`")
 FIELD = re.compile(r"^\s+(?P<field>[\w-]+) =(?: |$)")
 FUNCTION = re.compile(r"^\s*(?:pub(?:\([\w:]+\))? )?(?:final |const |unsafe )*(?:extern \"C\" )?fn (?P<function>\w+)")
 
