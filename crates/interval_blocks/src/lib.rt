@@ -59,6 +59,22 @@ fn fill_row(log: &[u8], b: u32, w: usize, first: usize, table: &mut [u16])
     }
 }
 
+// Fills the table with the rows of all workers, one behind the other, and `firsts` with the place of the first block of each. What is past
+// them is free.
+pub fn fill(log: &[u8], b: u32, firsts: &mut [u32], table: &mut [u16])
+    requires { (layout_refusal log.now ≡ 0) × (b ≤ most_bits) × (worker_count (workers_of log.now) ≤ length firsts.old)
+        × (first_block (workers_of log.now) b (worker_count (workers_of log.now)) ≤ length table.old) }
+    ensures blocks { Blocks (workers_of log.now) b firsts.new table.new }
+{
+    let n = event_log::worker_count(log);
+    let mut first: usize = 0;
+    for w in 0..n {
+        firsts[w] = first as u32;
+        fill_row(log, b, w, first, table);
+        first += blocks_of(log, b, w);
+    }
+}
+
 // A log that passes the tests 1 to 6, with a table of the intervals at the starts of its blocks of 2^b events: the rows of all workers, one behind
 // the other, and in `firsts` the place of the first block of each.
 #[derive(Clone, Copy)]
@@ -72,7 +88,7 @@ pub struct IntervalTable<'a> {
 }
 
 impl<'a> IntervalTable<'a> {
-    // The table of a log, with blocks of 2^b events, filled in words that are lent for it. What is past its rows is free.
+    // The table of a log, with blocks of 2^b events, filled in words that are lent for it.
     pub fn new(
         log: &'a [u8],
         b: u32,
@@ -84,13 +100,7 @@ impl<'a> IntervalTable<'a> {
         ensures log { result.log.now ≡ log.now }
         ensures size { result.b ≡ b }
     {
-        let n = event_log::worker_count(log);
-        let mut first: usize = 0;
-        for w in 0..n {
-            firsts[w] = first as u32;
-            fill_row(log, b, w, first, table);
-            first += blocks_of(log, b, w);
-        }
+        fill(log, b, firsts, table);
         IntervalTable {
             log,
             b,

@@ -1,10 +1,10 @@
--- `interval_blocks::IntervalTable::new` meets its contract: the rows of the first w workers end where the next row begins, and the table has a place for
+-- `interval_blocks::fill` meets its contract: the rows of the first w workers end where the next row begins, and the table has a place for
 -- each block. Assumes nothing.
 use native.Mathlib.Omega.{arith}
 use Rattle.event_log.specs.Model.{worker_count}
 use Rattle.event_log.specs.Layout.{workers_of}
 use Rattle.interval_blocks.proofs.BlockLaws.{blocks_before}
-use Rattle.interval_blocks.proofs.IntervalTable.new.Goals as goal
+use Rattle.interval_blocks.proofs.fill.Goals as goal
 
 pub fill_row-requires : goal.fill_row-requires
 fill_row-requires c =
