@@ -4,8 +4,8 @@ use Rattle.std.proofs.Common.{get_or, length, add-one}
 use Rattle.std.proofs.Math.ListN.{set}
 use Rattle.lent.specs.Inner.Overwrite.{overwrite}
 use Rattle.lent.proofs.Overwrite.{length_overwrite, overwrite_one, overwrite_more}
-use Rattle.bytes_le.specs.Little.{le, bytes_of}
-use Rattle.bytes_le.proofs.Little.{length_bytes}
+use Rattle.bytes_le.specs.Little.{le, bytes_of, Bytes}
+use Rattle.bytes_le.proofs.Little.{number_below_lem, length_bytes}
 
 -- a byte at place k, shifted to its worth
 pub shifted : (k b : ℕ) → k < 4 → b < 256 → b * 2 ^ (8 * k) % 4294967296 ≡ 256 ^ k * b
@@ -47,3 +47,10 @@ byte_fits (suc zero) number b h low byte = omega (arith, shifted 1 b (omega arit
 byte_fits (suc (suc zero)) number b h low byte = omega (arith, shifted 2 b (omega arith) byte)
 byte_fits (suc (suc (suc zero))) number b h low byte = omega (arith, shifted 3 b (omega arith) byte)
 byte_fits (suc (suc (suc (suc k)))) number b h low byte = absurd (omega arith)
+
+-- .. so the number with that byte does
+pub read_fits : (k at : ℕ) (s : List ℕ) → k < 4 → Bytes s → le (suc k) s at < 4294967296
+unfolding le
+read_fits k at s few bytes =
+    let byte = bytes (at + k) in
+    rw (shifted k (get_or s (at + k) 0) few byte) at (byte_fits k (le k s at) (get_or s (at + k) 0) few (number_below_lem k s at bytes) byte)
