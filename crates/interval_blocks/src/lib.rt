@@ -4,6 +4,7 @@
 
 ghost use Rattle.std.specs.Prelude.{◌≡◌, ◌+◌, ◌*◌, ◌^◌, ◌<◌, ◌≤◌, min, length};
 ghost use Rattle.event_log.specs.Header.{layout_refusal};
+ghost use Rattle.accept.specs.Refusal.{log_refusal};
 ghost use Rattle.event_log.specs.Model.{worker_count, event_count};
 ghost use Rattle.event_log.specs.Layout.{workers_of};
 ghost use Rattle.intervals.specs.Interval.{index, interval_at};
@@ -119,5 +120,30 @@ impl<'a> IntervalTable<'a> {
         let number = IntervalNumber(self.table[place] as u32);
         let start = EventIndex(block << self.b);
         intervals::advance(self.log, w, start, number, x)
+    }
+}
+
+// The table of an accepted log.
+#[derive(Clone, Copy)]
+pub struct AcceptedTable<'a> {
+    pub intervals: IntervalTable<'a>,
+    pub ghost accepted: { log_refusal intervals.log.now ≡ 0 },
+}
+
+impl<'a> AcceptedTable<'a> {
+    // As `IntervalTable::new`, for a log that is accepted.
+    pub fn new(
+        log: &'a [u8],
+        b: u32,
+        firsts: &'a mut [u32],
+        table: &'a mut [u16],
+    ) -> AcceptedTable<'a>
+        requires { (log_refusal log.now ≡ 0) × (b ≤ most_bits) × (worker_count (workers_of log.now) ≤ length firsts.old)
+            × (first_block (workers_of log.now) b (worker_count (workers_of log.now)) ≤ length table.old) }
+        ensures log { result.intervals.log.now ≡ log.now }
+        ensures size { result.intervals.b ≡ b }
+    {
+        let intervals = IntervalTable::new(log, b, firsts, table);
+        AcceptedTable { intervals }
     }
 }

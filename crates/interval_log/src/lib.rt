@@ -9,7 +9,7 @@ ghost use Rattle.bytes_le.specs.Little.{bytes_of};
 ghost use Rattle.event_log.specs.Limits.{max_length};
 ghost use Rattle.event_log.specs.Layout.{header_of, workers_of};
 ghost use Rattle.event_log.specs.Model.{worker_count, event_count, checkpoint_count};
-ghost use Rattle.accept.specs.Refusal.{log_refusal, given};
+ghost use Rattle.accept.specs.Refusal.{given};
 ghost use Rattle.pack.specs.Packed.{event_bytes, event_at, checkpoint_at, sections_of, sections_size, entry_of, packed_length, packed};
 ghost use Rattle.pack.specs.Calls.{pack_answer};
 ghost use Rattle.intervals.specs.Interval.{index, interval_at, interval_workers, interval_log};
@@ -18,7 +18,7 @@ ghost use Rattle.intervals.specs.Converted.{Converted};
 ghost use Rattle.interval_blocks.specs.Inner.Blocks.{most_bits, first_block};
 ghost use Rattle.interval_log.specs.Inner.Space.{table_places, naming, NamesEvent, Space};
 
-use interval_blocks::IntervalTable;
+use interval_blocks::{AcceptedTable, IntervalTable};
 use intervals::{EventIndex, IntervalNumber};
 use pack::Packed;
 use records::Event;
@@ -54,13 +54,13 @@ fn named_interval(table: &IntervalTable, e: Event) -> IntervalNumber
 }
 
 // Writes the receives of worker w from place `at` on. Returns where they end.
-fn write_events(table: &IntervalTable, w: usize, out: &mut [u8], at: usize) -> usize
-    requires { (log_refusal table.now.log.now ≡ 0) × (at + 12 * event_count (interval_workers (workers_of table.now.log.now)) w ≤ length out.old) }
-    ensures answer { result ≡ at + 12 * event_count (interval_workers (workers_of table.now.log.now)) w }
-    ensures out { out.new ≡ overwrite at (join_below (event_at (interval_workers (workers_of table.now.log.now)) w)
-        (event_count (interval_workers (workers_of table.now.log.now)) w)) out.old }
+fn write_events(table: &AcceptedTable, w: usize, out: &mut [u8], at: usize) -> usize
+    requires { at + 12 * event_count (interval_workers (workers_of table.now.intervals.log.now)) w ≤ length out.old }
+    ensures answer { result ≡ at + 12 * event_count (interval_workers (workers_of table.now.intervals.log.now)) w }
+    ensures out { out.new ≡ overwrite at (join_below (event_at (interval_workers (workers_of table.now.intervals.log.now)) w)
+        (event_count (interval_workers (workers_of table.now.intervals.log.now)) w)) out.old }
 {
-    let log = table.log;
+    let log = table.intervals.log;
     let start = event_log::event_start(log, w);
     let events = event_log::event_count(log, w) as usize;
     let mut place = at;
@@ -69,7 +69,7 @@ fn write_events(table: &IntervalTable, w: usize, out: &mut [u8], at: usize) -> u
         if !records::is_receive(e) {
             continue;
         }
-        let number = named_interval(table, e);
+        let number = named_interval(&table.intervals, e);
         write_receive(e, number, out, place);
         place += records::EVENT_SIZE;
     }
@@ -77,13 +77,13 @@ fn write_events(table: &IntervalTable, w: usize, out: &mut [u8], at: usize) -> u
 }
 
 // Writes the checkpoints of worker w that are not withdrawn from place `at` on. Returns where they end.
-fn write_checkpoints(table: &IntervalTable, w: usize, out: &mut [u8], at: usize) -> usize
-    requires { (log_refusal table.now.log.now ≡ 0) × (at + 8 * checkpoint_count (interval_workers (workers_of table.now.log.now)) w ≤ length out.old) }
-    ensures answer { result ≡ at + 8 * checkpoint_count (interval_workers (workers_of table.now.log.now)) w }
-    ensures out { out.new ≡ overwrite at (join_below (checkpoint_at (interval_workers (workers_of table.now.log.now)) w)
-        (checkpoint_count (interval_workers (workers_of table.now.log.now)) w)) out.old }
+fn write_checkpoints(table: &AcceptedTable, w: usize, out: &mut [u8], at: usize) -> usize
+    requires { at + 8 * checkpoint_count (interval_workers (workers_of table.now.intervals.log.now)) w ≤ length out.old }
+    ensures answer { result ≡ at + 8 * checkpoint_count (interval_workers (workers_of table.now.intervals.log.now)) w }
+    ensures out { out.new ≡ overwrite at (join_below (checkpoint_at (interval_workers (workers_of table.now.intervals.log.now)) w)
+        (checkpoint_count (interval_workers (workers_of table.now.intervals.log.now)) w)) out.old }
 {
-    let log = table.log;
+    let log = table.intervals.log;
     let count = event_log::checkpoint_count(log, w);
     let mut place = at;
     for k in 0..count {
@@ -92,7 +92,7 @@ fn write_checkpoints(table: &IntervalTable, w: usize, out: &mut [u8], at: usize)
             continue;
         }
         let index = EventIndex(checkpoint.index);
-        let number = table.interval_of(w, index);
+        let number = table.intervals.interval_of(w, index);
         write_checkpoint(number, checkpoint.identifier, out, place);
         place += records::CHECKPOINT_SIZE;
     }
@@ -100,10 +100,10 @@ fn write_checkpoints(table: &IntervalTable, w: usize, out: &mut [u8], at: usize)
 }
 
 // Writes the sections of worker w from place `at` on. Returns where they end.
-fn write_worker(table: &IntervalTable, w: usize, out: &mut [u8], at: usize) -> usize
-    requires { (log_refusal table.now.log.now ≡ 0) × (at + sections_size (interval_workers (workers_of table.now.log.now)) w ≤ length out.old) }
-    ensures answer { result ≡ at + sections_size (interval_workers (workers_of table.now.log.now)) w }
-    ensures out { out.new ≡ overwrite at (sections_of (interval_workers (workers_of table.now.log.now)) w) out.old }
+fn write_worker(table: &AcceptedTable, w: usize, out: &mut [u8], at: usize) -> usize
+    requires { at + sections_size (interval_workers (workers_of table.now.intervals.log.now)) w ≤ length out.old }
+    ensures answer { result ≡ at + sections_size (interval_workers (workers_of table.now.intervals.log.now)) w }
+    ensures out { out.new ≡ overwrite at (sections_of (interval_workers (workers_of table.now.intervals.log.now)) w) out.old }
 {
     let behind = write_events(table, w, out, at);
     write_checkpoints(table, w, out, behind)
@@ -111,12 +111,13 @@ fn write_worker(table: &IntervalTable, w: usize, out: &mut [u8], at: usize) -> u
 
 // Writes the sections of each worker.
 #[tactic(auto, using(crate::proofs::Kept::entry_laws))]
-fn write_sections(table: &IntervalTable, out: &mut [u8])
-    requires { (log_refusal table.now.log.now ≡ 0) × (packed_length (interval_workers (workers_of table.now.log.now)) ≤ length out.old) }
-    ensures out { out.new ≡ overwrite (header_of (worker_count (workers_of table.now.log.now)))
-        (join_below (sections_of (interval_workers (workers_of table.now.log.now))) (worker_count (workers_of table.now.log.now))) out.old }
+fn write_sections(table: &AcceptedTable, out: &mut [u8])
+    requires { packed_length (interval_workers (workers_of table.now.intervals.log.now)) ≤ length out.old }
+    ensures out { out.new ≡ overwrite (header_of (worker_count (workers_of table.now.intervals.log.now)))
+        (join_below (sections_of (interval_workers (workers_of table.now.intervals.log.now)))
+        (worker_count (workers_of table.now.intervals.log.now))) out.old }
 {
-    let n = event_log::worker_count(table.log);
+    let n = event_log::worker_count(table.intervals.log);
     let mut at = event_log::header_of(n as u32);
     for w in 0..n {
         at = write_worker(table, w, out, at);
@@ -125,18 +126,19 @@ fn write_sections(table: &IntervalTable, out: &mut [u8])
 
 // Writes the entry of each worker.
 #[tactic(auto, using(crate::proofs::Kept::entry_laws), unfolding(pack::specs::Packed::sections_size, pack::specs::Packed::entry_of, pack::specs::Packed::numbers_of))]
-fn write_entries(table: &IntervalTable, out: &mut [u8])
-    requires { (log_refusal table.now.log.now ≡ 0) × (packed_length (interval_workers (workers_of table.now.log.now)) ≤ max_length)
-        × (packed_length (interval_workers (workers_of table.now.log.now)) ≤ length out.old) }
+fn write_entries(table: &AcceptedTable, out: &mut [u8])
+    requires { (packed_length (interval_workers (workers_of table.now.intervals.log.now)) ≤ max_length)
+        × (packed_length (interval_workers (workers_of table.now.intervals.log.now)) ≤ length out.old) }
     ensures out { out.new ≡ overwrite (header_of 0)
-        (join_below (entry_of (interval_workers (workers_of table.now.log.now))) (worker_count (workers_of table.now.log.now))) out.old }
+        (join_below (entry_of (interval_workers (workers_of table.now.intervals.log.now)))
+        (worker_count (workers_of table.now.intervals.log.now))) out.old }
 {
-    let log = table.log;
+    let log = table.intervals.log;
     let n = event_log::worker_count(log);
     let mut start = event_log::header_of(n as u32);
     for w in 0..n {
         let last = EventIndex(event_log::event_count(log, w));
-        let receives = table.interval_of(w, last);
+        let receives = table.intervals.interval_of(w, last);
         let kept = interval_refusals::kept_count(log, w);
         pack::write_entry(w, start, receives.0, kept, event_log::role_of(log, w), out);
         start += records::EVENT_SIZE * (receives.0 as usize)
@@ -154,7 +156,7 @@ fn write_with(log: &[u8], b: u32, size: usize, out: &mut [u8])
 {
     let mut firsts = [0u32; event_log::MAX_WORKERS];
     let mut places = [0u16; PLACES];
-    let table = IntervalTable::new(log, b, &mut firsts, &mut places);
+    let table = AcceptedTable::new(log, b, &mut firsts, &mut places);
     pack::write_fields(records::THIRD_FORM, event_log::worker_count(log), size, out);
     write_entries(&table, out);
     write_sections(&table, out);

@@ -6,7 +6,7 @@ use Rattle.interval_log.proofs.Kept.{checkpoints_begin, checkpoints_past, checkp
 use Rattle.interval_log.proofs.write_checkpoints.Goals as goal
 
 pub loop-k-init : goal.loop-k-init
-loop-k-init c = checkpoints_begin _ _ _ _ c.requires.1
+loop-k-init c = checkpoints_begin _ _ _ _ c.requires
 
 pub loop-k-preserved-then-checkpoint : goal.loop-k-preserved-then-checkpoint
 loop-k-preserved-then-checkpoint c =
@@ -16,7 +16,7 @@ loop-k-preserved-then-checkpoint c =
 pub interval_of-number-requires : goal.interval_of-number-requires
 interval_of-number-requires c =
     let recorded = rw c.checkpoint_count-count.ensures.answer at c.loop-k-test.true in
-    let ok = well_formed _ c.requires.0 in
+    let ok = well_formed _ c.args.table.now.accepted in
     (worker_within' _ _ _ recorded, rw c.checkpoint_at-checkpoint.ensures.answer (ok.indices _ _))
 
 pub write_checkpoint-requires : goal.write_checkpoint-requires

@@ -18,12 +18,12 @@ loop-w-init c = (c.header_of-start.ensures.answer ∙ rw (c.worker_count-n.ensur
 pub loop-w-preserved : goal.loop-w-preserved
 unfolding entry_of numbers_of sections_size
 loop-w-preserved c =
-    let log : Workers = interval_workers (workers_of c.args.table.now.log.now) in
+    let log : Workers = interval_workers (workers_of c.args.table.now.intervals.log.now) in
     let receives : c.interval_of-receives.result.0 ≡ event_count log c.loop-w.w = rw (c.interval_of-receives.ensures.answer, c.event_count.ensures.answer) (sym (interval_count _ _)) in
     let within = header_within log in
     let long = entries_long log c.loop-w.w in
     let role = c.role_of.ensures.answer ∙ sym (interval_role _ _) in
     let wrote = rw (role, c.kept_count-kept.ensures.answer, receives, c.loop-w.invariant.0) at c.write_entry.ensures.out in (
       rw (c.loop-w.invariant.0, receives, c.kept_count-kept.ensures.answer) (sym (start_next _ _)),
-      written_more c.loop-w.invariant.1 c.loop-w-test.true (omega (arith, c.requires.2)) (omega arith) wrote c.write_entry.auto.out,
+      written_more c.loop-w.invariant.1 c.loop-w-test.true (omega (arith, c.requires.1)) (omega arith) wrote c.write_entry.auto.out,
     )

@@ -7,5 +7,5 @@ use Rattle.interval_log.proofs.write_entries.Given as goal
 
 abbrev pub invariant-loop-w : goal.invariant-loop-w
 invariant-loop-w l =
-    (l.start ≡ start_of (interval_workers (workers_of l.table.log.now)) l.w)
-    × Written (entry_of (interval_workers (workers_of l.table.log.now))) (header_of 0) l.initial.out l.n l.w l.out
+    (l.start ≡ start_of (interval_workers (workers_of l.table.intervals.log.now)) l.w)
+    × Written (entry_of (interval_workers (workers_of l.table.intervals.log.now))) (header_of 0) l.initial.out l.n l.w l.out

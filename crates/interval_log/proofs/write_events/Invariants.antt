@@ -3,4 +3,4 @@ use Rattle.interval_log.proofs.Kept.{Receives}
 use Rattle.interval_log.proofs.write_events.Given as goal
 
 abbrev pub invariant-loop-k : goal.invariant-loop-k
-invariant-loop-k l = Receives (workers_of l.table.log.now) l.w l.at l.initial.out l.k l.place l.out
+invariant-loop-k l = Receives (workers_of l.table.intervals.log.now) l.w l.at l.initial.out l.k l.place l.out

@@ -14,11 +14,11 @@ loop-w-init c = (c.header_of-at.ensures.answer ∙ rw (c.worker_count-n.ensures.
 
 pub loop-w-preserved : goal.loop-w-preserved
 loop-w-preserved c =
-    let log = interval_workers (workers_of c.args.table.now.log.now) in
-    let size = interval_size (workers_of c.args.table.now.log.now) in
+    let log = interval_workers (workers_of c.args.table.now.intervals.log.now) in
+    let size = interval_size (workers_of c.args.table.now.intervals.log.now) in
     let within = header_within log in
     let place = sections_before log c.loop-w.w in (
       rw c.loop-w.invariant.0 at c.write_worker-at.ensures.answer ∙ sym (start_next _ _),
-      written_more c.loop-w.invariant.1 c.loop-w-test.true (omega (arith, c.requires.1)) (omega (arith, c.loop-w.invariant.0)) c.write_worker-at.ensures.out
+      written_more c.loop-w.invariant.1 c.loop-w-test.true (omega (arith, c.requires)) (omega (arith, c.loop-w.invariant.0)) c.write_worker-at.ensures.out
           c.write_worker-at.auto.out,
     )

@@ -8,5 +8,5 @@ use Rattle.interval_log.proofs.write_sections.Given as goal
 
 abbrev pub invariant-loop-w : goal.invariant-loop-w
 invariant-loop-w l =
-    (l.at ≡ start_of (interval_workers (workers_of l.table.log.now)) l.w)
-    × Written (sections_of (interval_workers (workers_of l.table.log.now))) (header_of (worker_count (workers_of l.table.log.now))) l.initial.out l.n l.w l.out
+    (l.at ≡ start_of (interval_workers (workers_of l.table.intervals.log.now)) l.w)
+    × Written (sections_of (interval_workers (workers_of l.table.intervals.log.now))) (header_of (worker_count (workers_of l.table.intervals.log.now))) l.initial.out l.n l.w l.out

@@ -14,7 +14,7 @@ use Rattle.interval_log.proofs.write_with.Goals as goal
 pub new-table-requires : goal.new-table-requires
 new-table-requires c =
     let layout = accepted_layout _ c.requires.0.accepted in
-    (layout, c.requires.1, workers_few _ layout, c.requires.2)
+    (c.requires.0.accepted, c.requires.1, workers_few _ layout, c.requires.2)
 
 pub write_fields-requires : goal.write_fields-requires
 write_fields-requires c =

@@ -12,19 +12,19 @@ use Rattle.interval_log.proofs.write_worker.Goals as goal
 
 pub write_events-behind-requires : goal.write_events-behind-requires
 unfolding sections_size
-write_events-behind-requires c = (c.requires.0, omega (arith, c.requires.1))
+write_events-behind-requires c = omega (arith, c.requires)
 
 pub write_checkpoints-requires : goal.write_checkpoints-requires
 unfolding sections_size
-write_checkpoints-requires c = (c.requires.0, omega (arith, c.requires.1, c.write_events-behind.ensures.answer, c.write_events-behind.auto.out))
+write_checkpoints-requires c = omega (arith, c.requires, c.write_events-behind.ensures.answer, c.write_events-behind.auto.out)
 
 pub returns : goal.returns
 unfolding sections_size sections_of
 returns c =
-    let log = interval_workers (workers_of c.args.table.now.log.now) in
+    let log = interval_workers (workers_of c.args.table.now.intervals.log.now) in
     let w = c.args.w in
     let long = events_all_long log w (event_count log w) in record {
       answer = omega (arith, c.write_checkpoints.ensures.answer, c.write_events-behind.ensures.answer);
       out = c.write_checkpoints.ensures.out
-          ∙ rw c.write_events-behind.ensures.out (more_at c.args.at _ c.args.out.now _ _ (omega (arith, c.requires.1)) (omega (arith, c.write_events-behind.ensures.answer)));
+          ∙ rw c.write_events-behind.ensures.out (more_at c.args.at _ c.args.out.now _ _ (omega (arith, c.requires)) (omega (arith, c.write_events-behind.ensures.answer)));
     }
